@@ -1,0 +1,51 @@
+-- The sixteen channels, by their place in the order of 7.3.4.1.
+use mathlib.Core.Bool.{Bool, true, false}
+use mathlib.Core.List.{List, [], _∷_}
+use Prim.Native.Nat.{ℕ}
+use lib.ListN.{getD}
+use Rattle.channels.specs.declared.Format.{Format}
+use Rattle.channels.specs.declared.Format.the-variants.{Full, Compact}
+
+-- their places
+abbrev pub channels : List ℕ
+channels = 0 ∷ 1 ∷ 2 ∷ 3 ∷ 4 ∷ 5 ∷ 6 ∷ 7 ∷ 8 ∷ 9 ∷ 10 ∷ 11 ∷ 12 ∷ 13 ∷ 14 ∷ 15 ∷ []
+
+-- the three that a rule names: each record has X and Y, and S is stored in a way of its own
+abbrev pub X : ℕ
+X = 0
+
+abbrev pub Y : ℕ
+Y = 1
+
+abbrev pub S : ℕ
+S = 10
+
+-- whether each is signed (7.3.4.4)
+abbrev pub signs : List Bool
+signs =
+    true  -- 0 X, position
+    ∷ true  -- 1 Y
+    ∷ false  -- 2 Z
+    ∷ true  -- 3 VX, velocity
+    ∷ true  -- 4 VY
+    ∷ true  -- 5 AX, acceleration
+    ∷ true  -- 6 AY
+    ∷ false  -- 7 T, time
+    ∷ false  -- 8 DT, time since the point before
+    ∷ false  -- 9 F, force
+    ∷ false  -- 10 S, tip switch
+    ∷ true  -- 11 TX, tilt
+    ∷ true  -- 12 TY
+    ∷ false  -- 13 Az, azimuth
+    ∷ false  -- 14 El, elevation
+    ∷ false  -- 15 R, rotation
+    ∷ []
+
+-- the sign of a channel, and none past the table
+unfoldable pub signedOf : ℕ → Bool
+signedOf channel = getD signs channel false
+
+-- how many bytes a number has: two in the full format (7.3.4.4, 7.4.2), one in the compact one (8.2.2.4)
+unfoldable pub widthOf : Format → ℕ
+widthOf Full = 2
+widthOf Compact = 1

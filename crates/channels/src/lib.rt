@@ -1,0 +1,184 @@
+// The sixteen channels of ISO/IEC 19794-7:2007: their order and signs, what is said of them, and their numbers as stored and as meant.
+ghost use mathlib.Core.Path.{_≡_};
+ghost use Prim.Native.Nat.{_^_};
+ghost use lib.IntN.{pos};
+ghost use Rattle.channels.specs.Channel.{signedOf, widthOf};
+ghost use Rattle.channels.specs.Stored as stored;
+ghost use Rattle.channels.specs.Stored.{valueOf, storedIf};
+ghost use Rattle.channels.specs.Switch.{stateIf, byteIf};
+
+// The channels, by their place in the order of 7.3.4.1.
+pub const X: usize = 0; // position
+
+pub const Y: usize = 1;
+
+pub const Z: usize = 2;
+
+pub const VX: usize = 3; // velocity
+
+pub const VY: usize = 4;
+
+pub const AX: usize = 5; // acceleration
+
+pub const AY: usize = 6;
+
+pub const T: usize = 7; // time
+
+pub const DT: usize = 8; // time since the point before
+
+pub const F: usize = 9; // force
+
+pub const S: usize = 10; // tip switch
+
+pub const TX: usize = 11; // tilt
+
+pub const TY: usize = 12;
+
+pub const AZ: usize = 13; // azimuth
+
+pub const EL: usize = 14; // elevation
+
+pub const R: usize = 15; // rotation
+
+// A channel attribute: whether its flag is set, and its number, 0 where the flag isn't.
+pub struct Attribute {
+    pub given: bool,
+    pub number: i32,
+}
+
+// What a channel's descriptor says (7.3.4.2).
+pub struct Descriptor {
+    pub included: bool,
+    pub scaling: Attribute,
+    pub minimum: Attribute,
+    pub maximum: Attribute,
+    pub mean: Attribute,
+    pub deviation: Attribute,
+    pub constant: bool,
+    pub detrended: bool,
+}
+
+// A descriptor for each channel, in their order.
+pub struct Description {
+    pub channels: [Descriptor; 16],
+}
+
+// What a sample point says of a channel.
+pub enum Place {
+    Absent,
+    Constant,
+    Number(i32),
+}
+
+// The full format stores a number in two bytes (clause 7), the compact one in one (clause 8).
+pub enum Format {
+    Full,
+    Compact,
+}
+
+// Which channels are signed: X, Y, Z, VX, VY, AX, AY, T, DT, F, S, TX, TY, Az, El, R.
+const SIGNED: [bool; 16] = [
+    true,
+    true,
+    false,
+    true,
+    true,
+    true,
+    true,
+    false,
+    false,
+    false,
+    false,
+    true,
+    true,
+    false,
+    false,
+    false,
+];
+
+// A channel past the table has no sign.
+pub fn is_signed(channel: usize) -> bool
+    ensures { λ r. ⌜ r ≡ signedOf channel ⌝ }
+{
+    if channel < 16 { SIGNED[channel] } else { false }
+}
+
+// What is added to a number before it is stored.
+fn offset_of(format: Format, signed: bool) -> i32
+    ensures { λ r. ⌜ r ≡ stored.offset (widthOf format) signed ⌝ }
+{
+    if signed {
+        match format {
+            Format::Full => 32768,
+            Format::Compact => 128,
+        }
+    } else {
+        0
+    }
+}
+
+// The number that a stored one stands for.
+pub fn value_of(format: Format, signed: bool, number: u16) -> i32
+    ensures { λ r. ⌜ r ≡ valueOf (widthOf format) signed number ⌝ }
+{
+    (number as i32) - offset_of(format, signed)
+}
+
+// What is stored for a number, if anything is.
+pub enum Stored {
+    Number(u16),
+    Outside,
+}
+
+// The first number that is too large to be stored.
+fn limit_of(format: Format) -> i64
+    ensures { λ r. ⌜ r ≡ pos (256 ^ widthOf format) ⌝ }
+{
+    match format {
+        Format::Full => 65536,
+        Format::Compact => 256,
+    }
+}
+
+// What is stored for a number, where it is in the range.
+pub fn stored_of(format: Format, signed: bool, value: i32) -> Stored
+    ensures { λ r. ⌜ r ≡ storedIf (widthOf format) signed value ⌝ }
+{
+    let number = (value as i64) + (offset_of(format, signed) as i64);
+    if number < 0 {
+        return Stored::Outside;
+    }
+    if limit_of(format) <= number {
+        return Stored::Outside;
+    }
+    Stored::Number(number as u16)
+}
+
+// What a byte of S stands for, if anything.
+pub enum Switch {
+    State(i32),
+    NotAdmitted,
+}
+
+// The state of the tip switch that a byte of a sample point stands for (7.4.2, as decided).
+pub fn state_of(byte: u8) -> Switch
+    ensures { λ r. ⌜ r ≡ stateIf byte ⌝ }
+{
+    if 1 < byte {
+        return Switch::NotAdmitted;
+    }
+    Switch::State(byte as i32)
+}
+
+// The byte of a sample point for a state of the tip switch.
+pub fn byte_of(state: i32) -> Stored
+    ensures { λ r. ⌜ r ≡ byteIf state ⌝ }
+{
+    if state < 0 {
+        return Stored::Outside;
+    }
+    if 2 <= state {
+        return Stored::Outside;
+    }
+    Stored::Number(state as u16)
+}

@@ -1,0 +1,124 @@
+-- What code tells of an answer: how it ended, and where. The laws take a walk over a format from part to part:
+-- what the whole is told as from here is what the rest is told as from the next place.
+use mathlib.Core.Path.{_≡_, refl, sym, ap, _∙_}
+use mathlib.Core.List.{List, [], _∷_}
+use Prim.Native.Nat.{ℕ, zero, suc, _+_, _-_, _≤_, _<_}
+use native.Mathlib.Omega.{arith}
+use lib.ListN.{length}
+use Rattle.formats.specs.Bytes.{impossible}
+use Rattle.formats.specs.Reader.{Reader, Answer, ok, short, bad, mapped, readAt, bind, map, each, times}
+use Rattle.formats.specs.Compose.{at-done, at-map, at-within, at-bind-ok, at-bind-short, at-bind-bad}
+use Rattle.formats.specs.declared.Outcome.{Outcome}
+use Rattle.formats.specs.declared.Outcome.the-variants.{Done, Short, Bad}
+
+unfoldable pub told : {A : Type 0} → Answer A → Outcome
+told (ok v n) = Done n
+told short = Short
+told (bad k p) = Bad k p
+
+pub told-mapped : {A B : Type 0} (g : A → B) (x : Answer A) → told (mapped g x) ≡ told x
+unfolding told mapped
+told-mapped g (ok v n) = refl
+told-mapped g short = refl
+told-mapped g (bad k p) = refl
+
+-- what was told, taken back to the answer
+module _ {A : Type 0} where
+  pub told-done : (x : Answer A) {n : ℕ} → Done n ≡ told x → (v : A) × (x ≡ ok v n)
+  unfolding told
+  told-done (ok v m) e = (v, ap (ok v) (cc))
+  told-done short e = impossible (cc)
+  told-done (bad k p) e = impossible (cc)
+
+  pub told-short : (x : Answer A) → Short ≡ told x → x ≡ short
+  unfolding told
+  told-short (ok v m) e = impossible (cc)
+  told-short short e = refl
+  told-short (bad k p) e = impossible (cc)
+
+  pub told-bad : (x : Answer A) {k p : ℕ} → Bad k p ≡ told x → x ≡ bad k p
+  unfolding told
+  told-bad (ok v m) e = impossible (cc)
+  told-bad short e = impossible (cc)
+  told-bad (bad k p) e = cc
+
+pub map-told : {A B : Type 0} (g : A → B) (r : Reader A) (s : List ℕ) (at : ℕ) → told (readAt (map g r) s at) ≡ told (readAt r s at)
+map-told g r s at = ap told (at-map g r s at) ∙ told-mapped g (readAt r s at)
+
+-- a first part, by its answer
+module _ {A B : Type 0} (r : Reader A) (k : A → Reader B) (s : List ℕ) (at : ℕ) where
+  pub bind-done : {v : A} {n : ℕ} → readAt r s at ≡ ok v n → told (readAt (bind r k) s at) ≡ told (readAt (k v) s n)
+  bind-done e = ap told (at-bind-ok r k s at e)
+
+  pub bind-short : Short ≡ told (readAt r s at) → told (readAt (bind r k) s at) ≡ Short
+  unfolding told
+  bind-short e = ap told (at-bind-short r k s at (told-short (readAt r s at) e))
+
+  pub bind-bad : {j p : ℕ} → Bad j p ≡ told (readAt r s at) → told (readAt (bind r k) s at) ≡ Bad j p
+  unfolding told
+  bind-bad e = ap told (at-bind-bad r k s at (told-bad (readAt r s at) e))
+
+-- the next of a list of parts
+module _ {I A : Type 0} (i : I) (l : List I) (f : I → Reader A) (s : List ℕ) (at : ℕ) where
+  pub each-done : {n : ℕ} → Done n ≡ told (readAt (f i) s at) → told (readAt (each (i ∷ l) f) s at) ≡ told (readAt (each l f) s n)
+  unfolding each
+  each-done {n} e = let x = told-done (readAt (f i) s at) e in bind-done (f i) _ s at (x .1) ∙ map-told (λ vs. x .0 ∷ vs) (each l f) s n
+
+  pub each-short : Short ≡ told (readAt (f i) s at) → told (readAt (each (i ∷ l) f) s at) ≡ Short
+  unfolding each
+  each-short e = bind-short (f i) _ s at e
+
+  pub each-bad : {k p : ℕ} → Bad k p ≡ told (readAt (f i) s at) → told (readAt (each (i ∷ l) f) s at) ≡ Bad k p
+  unfolding each
+  each-bad e = bind-bad (f i) _ s at e
+
+-- a step from place to place, n times
+unfoldable pub thenTold : Outcome → (ℕ → Outcome) → Outcome
+thenTold (Done m) k = k m
+thenTold Short k = Short
+thenTold (Bad j p) k = Bad j p
+
+unfoldable pub repeated : (ℕ → Outcome) → ℕ → ℕ → Outcome
+repeated step zero at = Done at
+repeated step (suc n) at = thenTold (step at) (repeated step n)
+
+-- the ith of n steps, by how it ended
+module _ (step : ℕ → Outcome) (at i n : ℕ) where
+  count : i < n → n - i ≡ suc (n - (i + 1))
+  count h = omega arith
+
+  pub repeated-done : {m : ℕ} → i < n → step at ≡ Done m → repeated step (n - i) at ≡ repeated step (n - (i + 1)) m
+  unfolding repeated thenTold
+  repeated-done {m} h e = rw (count h, e)
+
+  pub repeated-short : i < n → step at ≡ Short → repeated step (n - i) at ≡ Short
+  unfolding repeated thenTold
+  repeated-short h e = rw (count h, e)
+
+  pub repeated-bad : {k p : ℕ} → i < n → step at ≡ Bad k p → repeated step (n - i) at ≡ Bad k p
+  unfolding repeated thenTold
+  repeated-bad h e = rw (count h, e)
+
+  pub repeated-none : n ≤ i → repeated step (n - i) at ≡ Done at
+  unfolding repeated
+  repeated-none h = let z : n - i ≡ 0 = omega arith in rw z
+
+-- a part that starts in a string ends in it
+pub done-within : {A : Type 0} (r : Reader A) (s : List ℕ) (at : ℕ) {n : ℕ} → at ≤ length s → Done n ≡ told (readAt r s at) → (at ≤ n) × (n ≤ length s)
+done-within r s at h e = at-within r s at (told-done (readAt r s at) e .1) h
+
+-- n equal parts are n steps
+module _ {A : Type 0} (r : Reader A) (s : List ℕ) (step : ℕ → Outcome) (one : (at : ℕ) → at ≤ length s → told (readAt r s at) ≡ step at) where
+  times-by : (n at : ℕ) (x : Outcome) → at ≤ length s → told (readAt r s at) ≡ x → ((m : ℕ) → m ≤ length s → told (readAt (times n r) s m) ≡ repeated step n m)
+      → told (readAt (times (suc n) r) s at) ≡ thenTold x (repeated step n)
+  unfolding times thenTold
+  times-by n at (Done m) h e rest =
+      let x = told-done (readAt r s at) (sym e) in
+      bind-done r _ s at (x .1) ∙ map-told (λ vs. x .0 ∷ vs) (times n r) s m ∙ rest m (done-within r s at h (sym e) .1)
+  times-by n at Short h e rest = bind-short r _ s at (sym e)
+  times-by n at (Bad k p) h e rest = bind-bad r _ s at (sym e)
+
+  pub times-repeated : (n at : ℕ) → at ≤ length s → told (readAt (times n r) s at) ≡ repeated step n at
+  unfolding told times repeated
+  times-repeated zero at h = ap told (at-done [] s at)
+  times-repeated (suc n) at h = times-by n at (step at) h (one at h) (times-repeated n)

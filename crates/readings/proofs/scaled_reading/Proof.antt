@@ -1,0 +1,84 @@
+-- `readings::scaled_reading` meets its contract: by the attribute's flag and the sign of its number. Assumes nothing.
+use mathlib.Core.Path.{_≡_, refl, _∙_}
+use mathlib.Core.Bool.{true, false}
+use Prim.Native.Nat.{ℕ}
+use native.Mathlib.Omega.{arith}
+use borrow.Author.Needs.{needs}
+use borrow.Author.Tests.{ltb-true}
+use lib.Dec.{T}
+use lib.IntN.{ℤ, pos, negsuc, natAbs}
+use lib.Signed.{ltZ, nonNeg}
+use mir.Syntax.{w32, w64}
+use mir.Val.{Fits, SFits, toZ, ofZ}
+use mir.ValLaws.{toZ-ofZ}
+use Rattle.readings.specs.Thousandths.{outside, reading, readingBy, exponentOf, fractionOf, scaledReading}
+use Rattle.readings.proofs.scaled_reading.Statement.{statement}
+use Rattle.readings.proofs.scaled_reading.Tie as tie
+
+-- a number below zero, and one that is not
+negative : (raw number : ℤ) → ltZ number (pos 0) ≡ true → outside ≡ readingBy raw number
+unfolding readingBy
+negative raw (pos n) h = let k = ltb-true n 0 h in absurd (omega arith)
+negative raw (negsuc n) h = refl
+
+record Natural (raw number : ℤ) : Type 0 where
+  sign : T (nonNeg number)
+  fits : Fits w64 (natAbs number)
+  reads : reading raw (exponentOf (natAbs number)) (fractionOf (natAbs number)) ≡ readingBy raw number
+
+natural : (raw number : ℤ) → SFits w32 number → ltZ number (pos 0) ≡ false → Natural raw number
+unfolding readingBy
+natural raw (pos n) f h = let k = f .sfits in record { sign = tt; fits = record { fits = omega arith }; reads = refl }
+natural raw (negsuc n) f h = let z : _≡_ {A = ℕ} 0 1 = cc in absurd (omega arith)
+
+-- what the tests on its bits say
+read-number : (s : tie.Start) → toZ w32 (ofZ w32 (s .args .scaling .number)) ≡ s .args .scaling .number
+read-number s = toZ-ofZ w32 _ (search needs)
+
+natural-number : (c : tie.Else2) → Natural (c .before .before .before .args .raw) (c .before .before .before .args .scaling .number)
+natural-number c =
+    let s = c .before .before .before in
+    natural (s .args .raw) (s .args .scaling .number) (search needs) (rw (read-number s) at (c .if2 .left))
+
+returns : tie.Need-returns
+unfolding scaledReading
+returns c =
+    let s = c .before .before .before in
+    rw (c .before .before .if1 .taken) (negative (s .args .raw) (s .args .scaling .number) (rw (read-number s) at (c .if2 .taken)))
+
+cast-scale-of : tie.Need-cast-scale-of
+cast-scale-of c = rw (read-number (c .before .before .before)) (natural-number c .sign, natural-number c .fits)
+
+scale-of-requires : tie.Need-scale-of-requires
+scale-of-requires c κs = search needs
+
+to-thousandths-requires : tie.Need-to-thousandths-requires
+to-thousandths-requires c κs = search needs
+
+returns-2 : tie.Need-returns-2
+unfolding scaledReading
+returns-2 c =
+    let b = c .before in
+    let s = b .before .before .before .before in
+    rw (b .before .before .before .if1 .taken) (c .to-thousandths .ensures ∙ rw (toZ-ofZ w64 (s .args .raw) (s .fits .raw), b .scale-of .ensures .0, b .scale-of .ensures .1, read-number s) (natural-number (b .before) .reads))
+
+to-thousandths-requires-2 : tie.Need-to-thousandths-requires-2
+to-thousandths-requires-2 c κs = search needs
+
+returns-3 : tie.Need-returns-3
+unfolding scaledReading
+returns-3 c =
+    let s = c .before .before in
+    rw (c .before .if1 .left) (c .to-thousandths2 .ensures ∙ rw (toZ-ofZ w64 (s .args .raw) (s .fits .raw)))
+
+pub scaled-reading-spec : {M : Type 1} → statement M
+scaled-reading-spec =
+    tie.close
+    (tie.spec
+    returns
+    cast-scale-of
+    scale-of-requires
+    to-thousandths-requires
+    returns-2
+    to-thousandths-requires-2
+    returns-3)

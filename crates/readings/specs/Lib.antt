@@ -1,0 +1,7 @@
+-- `Thousandths`: the meaning of a reading. `Nearest`: what "nearest" is, and that nothing else is. `Laws`: what follows for readings, their ends, and scaling values.
+-- `Answers`: no second answer meets a promise. `Examples`: P12 and the scope's other readings.
+pub mod Thousandths
+pub mod Nearest
+pub mod Laws
+pub mod Answers
+pub mod Examples

@@ -1,0 +1,86 @@
+-- A reading in thousandths: the stored value divided by the scaling value (7.3.4.3), as document 01 has it.
+use mathlib.Core.Bool.{Bool, cond, _&&_}
+use Prim.Native.Nat.{ℕ, suc, _+_, _*_, _/_, _%_, _^_}
+use lib.IntN.{ℤ, pos, negsuc, negℤ, _*ℤ_}
+use lib.Signed.{leZ}
+use lib.Dec.{leb}
+use Rattle.channels.specs.declared.Attribute.{Attribute}
+use Rattle.channels.specs.declared.Place as place
+use Rattle.readings.specs.declared.Reading.{Reading}
+use Rattle.readings.specs.declared.Reading.the-variants.{Thousandths, OutOfRange}
+use Rattle.readings.specs.declared.PlaceReading as placed
+
+-- ---- The number
+
+-- the whole number nearest to n / d, a half going up
+abbrev pub halfUp : ℕ → ℕ → ℕ
+halfUp n d = (2 * n + d) / (2 * d)
+
+-- the whole number nearest to n / d, a half going away from zero: the size is rounded, and the sign kept (`negsuc n` is -(n + 1))
+unfoldable pub nearest : ℤ → ℕ → ℤ
+nearest (pos n) d = pos (halfUp n d)
+nearest (negsuc n) d = negℤ (pos (halfUp (suc n) d))
+
+-- scale = (1 + F/2048) · 2^(E-16), so 1000 · raw / scale is 2^27 · (1000 · raw) over (2048 + F) · 2^E
+abbrev pub numerator : ℤ → ℤ
+numerator raw = pos (2 ^ 27) *ℤ (pos 1000 *ℤ raw)
+
+abbrev pub denominator : ℕ → ℕ → ℕ
+denominator e f = (2048 + f) * 2 ^ e
+
+-- the whole number of thousandths nearest to raw / scale
+unfoldable pub thousandths : ℤ → ℕ → ℕ → ℤ
+thousandths raw e f = nearest (numerator raw) (denominator e f)
+
+-- raw is from -32768 to 65535, E to 31, F to 2047
+unfoldable pub defined : ℤ → ℕ → ℕ → Bool
+defined raw e f = leZ (negsuc 32767) raw && (leZ raw (pos 65535) && (leb e 31 && leb f 2047))
+
+-- ---- The answer, as document 01 numbers it
+
+pub data Answer : Type 0 where
+  value : ℤ → Answer
+  absent : Answer
+  refused : ℕ → Answer
+
+-- a number outside its range
+abbrev pub outside : Answer
+outside = refused 12
+
+-- to_thousandths
+unfoldable pub reading : ℤ → ℕ → ℕ → Answer
+reading raw e f = cond (defined raw e f) (value (thousandths raw e f)) outside
+
+-- ---- A place of a point
+
+-- a scaling value is one number, 2048 · E + F
+abbrev pub exponentOf : ℕ → ℕ
+exponentOf number = number / 2048
+
+abbrev pub fractionOf : ℕ → ℕ
+fractionOf number = number % 2048
+
+-- one below zero is outside; one above 65535 has an E above 31
+unfoldable pub readingBy : ℤ → ℤ → Answer
+readingBy raw (pos number) = reading raw (exponentOf number) (fractionOf number)
+readingBy raw (negsuc number) = outside
+
+-- without a scaling value the scale is 1: E 16, F 0
+unfoldable pub scaledReading : ℤ → Attribute → Answer
+scaledReading raw scaling = cond (scaling .given) (readingBy raw (scaling .number)) (reading raw 16 0)
+
+-- place_thousandths: absent stays absent; a constant channel is read as raw 1
+unfoldable pub placeReading : place.Place → Attribute → Answer
+placeReading place.the-variants.Absent scaling = absent
+placeReading place.the-variants.Constant scaling = scaledReading (pos 1) scaling
+placeReading (place.the-variants.Number raw) scaling = scaledReading raw scaling
+
+-- ---- What the code's answers say
+
+abbrev pub told : Reading → Answer
+told (Thousandths z) = value z
+told OutOfRange = outside
+
+abbrev pub toldPlace : placed.PlaceReading → Answer
+toldPlace placed.the-variants.Absent = absent
+toldPlace (placed.the-variants.Present r) = told r

@@ -1,0 +1,202 @@
+// Full records of ISO/IEC 19794-7:2007 (clause 7): judging them, handing back their parts and points, and writing them.
+use channels::Description;
+use channels::Descriptor;
+use channels::Format;
+use channels::Place;
+use channels::Switch;
+use formats::Outcome;
+ghost use mathlib.Core.Path.{_≡_};
+ghost use Prim.Native.Nat.{_+_, _*_, _-_, _≤_, _<_};
+ghost use lib.ListN.{length, drop};
+ghost use Rattle.formats.specs.Reader.{readAt, times, run};
+ghost use Rattle.formats.specs.Told.{told, repeated};
+ghost use Rattle.formats.specs.Jump.{ends};
+ghost use Rattle.records.specs.Record.{sample, point, extension, storedFrom, widths, width};
+ghost use Rattle.records.specs.Points.{sampled, taken, seat, placesAt, switched};
+
+// What a sample point holds of a channel, and where it ends.
+enum Sample {
+    Number { value: i32, next: usize },
+    Missing,
+}
+
+fn pair(high: u8, low: u8) -> u16
+    ensures { λ r. ⌜ r ≡ high * 256 + low ⌝ }
+{
+    (high as u16) * 256 + (low as u16)
+}
+
+// A channel's number in a sample point (7.4.2): one byte for S, two for any other channel.
+fn sample_at(s: &[u8], at: usize, channel: usize) -> Sample
+    ensures { λ r. ⌜ r ≡ sampled (readAt (sample channel) (now (s .entry)) at) ⌝ }
+{
+    if s.len() <= at {
+        return Sample::Missing;
+    }
+    if channel == channels::S {
+        match channels::state_of(s[at]) {
+            Switch::State(value) => Sample::Number {
+                value: value,
+                next: at + 1,
+            },
+            Switch::NotAdmitted => Sample::Missing,
+        }
+    } else {
+        if s.len() - at < 2 {
+            return Sample::Missing;
+        }
+        let stored = pair(s[at], s[at + 1]);
+        let value = channels::value_of(Format::Full, channels::is_signed(channel), stored);
+        Sample::Number {
+            value: value,
+            next: at + 2,
+        }
+    }
+}
+
+// What a sample point says of a channel, and where that ends.
+enum Taken {
+    Took { place: Place, next: usize },
+    Missing,
+}
+
+// A channel that is not included and one that is constant have no bytes.
+fn place_at(s: &[u8], at: usize, channel: usize, d: Descriptor) -> Taken
+    ensures { λ r. ⌜ r ≡ taken (readAt (seat channel d) (now (s .entry)) at) ⌝ }
+{
+    if !d.included {
+        return Taken::Took {
+            place: Place::Absent,
+            next: at,
+        };
+    }
+    if d.constant {
+        return Taken::Took {
+            place: Place::Constant,
+            next: at,
+        };
+    }
+    match sample_at(s, at, channel) {
+        Sample::Number { value, next } => Taken::Took {
+            place: Place::Number(value),
+            next: next,
+        },
+        Sample::Missing => Taken::Missing,
+    }
+}
+
+// The sixteen places of the sample point that stands at a place of some bytes, all absent where none stands there.
+pub fn point_at(bytes: &[u8], start: usize, description: Description) -> [Place; 16]
+    ensures { λ r. ⌜ r ≡ placesAt description (readAt (point description) (now (bytes .entry)) start) ⌝ }
+{
+    let mut places = [Place::Absent; 16];
+    let mut at = start;
+    let mut channel: usize = 0;
+    while channel < 16 {
+        let d = description.channels[channel];
+        match place_at(bytes, at, channel, d) {
+            Taken::Took { place, next } => {
+                places[channel] = place;
+                at = next;
+            }
+            Taken::Missing => return [Place::Absent; 16],
+        }
+        channel += 1;
+    }
+    places
+}
+
+// How many bytes of a sample point the channels from `first` on have.
+fn width_from(d: Description, first: usize) -> usize
+    ensures { λ r. ⌜ (r ≡ widths (storedFrom first (drop first (d .channels)))) × (r < 33) ⌝ }
+{
+    let mut w: usize = 0;
+    let mut i: usize = first;
+    while i < 16 {
+        let c = d.channels[i];
+        if descriptions::is_stored(c) {
+            if i == channels::S {
+                w += 1;
+            } else {
+                w += 2;
+            }
+        }
+        i += 1;
+    }
+    w
+}
+
+// Where a sample point ends whose switch stands `offset` bytes behind its start: of its bytes only the switch is looked at.
+fn point_end(s: &[u8], start: usize, width: usize, offset: usize) -> Outcome
+    requires { ⌜ (start ≤ length (now s)) × (offset < width) × (width < 33) ⌝ }
+    ensures { λ r. ⌜ r ≡ switched (now (s .entry)) start width offset ⌝ }
+{
+    if s.len() - start <= offset {
+        return Outcome::Short;
+    }
+    match channels::state_of(s[start + offset]) {
+        Switch::State(_) => jump(s, start, width),
+        Switch::NotAdmitted => Outcome::Bad(8, start + offset),
+    }
+}
+
+// Points one by one: where they have a switch, each of its bytes is looked at.
+fn walk_points(s: &[u8], start: usize, width: usize, offset: usize, n: usize) -> Outcome
+    requires { ⌜ (start ≤ length (now s)) × (offset < width) × (width < 33) ⌝ }
+    ensures { λ r. ⌜ r ≡ repeated (λ at. switched (now (s .entry)) at width offset) n start ⌝ }
+{
+    let mut at = start;
+    let mut i: usize = 0;
+    while i < n {
+        match point_end(s, at, width, offset) {
+            Outcome::Done(next) => {
+                at = next;
+            }
+            Outcome::Short => return Outcome::Short,
+            Outcome::Bad(k, p) => return Outcome::Bad(k, p),
+        }
+        i += 1;
+    }
+    Outcome::Done(at)
+}
+
+// Bytes that may be anything are passed over at once.
+fn jump(s: &[u8], start: usize, size: usize) -> Outcome
+    requires { ⌜ start ≤ length (now s) ⌝ }
+    ensures { λ r. ⌜ r ≡ ends (now (s .entry)) start size ⌝ }
+{
+    if s.len() - start < size {
+        return Outcome::Short;
+    }
+    Outcome::Done(start + size)
+}
+
+// The sample points of a record (7.4.2).
+fn judge_points(s: &[u8], start: usize, d: Description, count: u32) -> Outcome
+    requires { ⌜ start ≤ length (now s) ⌝ }
+    ensures { λ r. ⌜ r ≡ told (readAt (times count (point d)) (now (s .entry)) start) ⌝ }
+{
+    let n = count as usize;
+    let width = width_from(d, 0);
+    let switch = d.channels[channels::S];
+    if descriptions::is_stored(switch) {
+        let offset = width - width_from(d, channels::S);
+        return walk_points(s, start, width, offset, n);
+    }
+    jump(s, start, n * width)
+}
+
+// The extended data, where the opening byte announced them: a length of two bytes, and that many bytes (7.4.3, as decided).
+fn extension_end(s: &[u8], start: usize, announced: bool) -> Outcome
+    requires { ⌜ start ≤ length (now s) ⌝ }
+    ensures { λ r. ⌜ r ≡ told (readAt (extension announced) (now (s .entry)) start) ⌝ }
+{
+    if !announced {
+        return Outcome::Done(start);
+    }
+    if s.len() - start < 2 {
+        return Outcome::Short;
+    }
+    let size = pair(s[start], s[start + 1]);
+    jump(s, start + 2, size as usize)
+}
