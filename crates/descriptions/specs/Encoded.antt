@@ -151,7 +151,7 @@ module _ (w i : ℕ) where
       writes-line (λ d. d .mean) (writes-attribute w (signedOf i) (bit 5 b)) (λ mean h.
       writes-line (λ d. d .deviation) (writes-attribute w false (bit 4 b)) (λ deviation h.
       writes-done _)
-      (λ v d h q. sym (ap (λ x. x .deviation) q)))
+      (λ v d h q. sym (ap (λ (x : Descriptor). x .deviation) q)))
       (λ v d h q. sym (ap (λ x. x .mean) (q .1))))
       (λ v d h q. sym (ap (λ x. x .maximum) (q .1 .1))))
       (λ v d h q. sym (ap (λ x. x .minimum) (q .1 .1 .1))))
@@ -247,7 +247,7 @@ unfolding fitsDescriptor fitsAttribute
 absent-fits w i = tt
 
 -- the channels from i on, n of them
-from : ℕ → ℕ → List ℕ
+unfoldable pub from : ℕ → ℕ → List ℕ
 from i zero = []
 from i (suc n) = i ∷ from (suc i) n
 

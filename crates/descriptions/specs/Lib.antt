@@ -5,3 +5,5 @@ pub mod Rules
 pub mod Encoded
 pub mod Faults
 pub mod Size
+pub mod Read
+pub mod Answers

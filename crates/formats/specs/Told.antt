@@ -1,13 +1,20 @@
 -- What code tells of an answer: how it ended, and where. The laws take a walk over a format from part to part:
 -- what the whole is told as from here is what the rest is told as from the next place.
 use mathlib.Core.Path.{_≡_, refl, sym, ap, _∙_}
+use mathlib.Core.Bool.{Bool, true, false, cond}
+use mathlib.Core.Logic.{by-cases}
 use mathlib.Core.List.{List, [], _∷_}
 use Prim.Native.Nat.{ℕ, zero, suc, _+_, _-_, _≤_, _<_}
+use native.Mathlib.Decide.{decLt}
 use native.Mathlib.Omega.{arith}
-use lib.ListN.{length}
+use lib.Dec.{T, eqb, leb, ltb}
+use lib.Pow.{areBytes}
+use lib.Ieee.Fits.{and-r}
+use borrow.Author.Tests.{le-leb, lt-leb, eq-eqb, ne-eqb, eqb-true, eqb-false}
+use lib.ListN.{length, getD}
 use Rattle.formats.specs.Bytes.{impossible}
-use Rattle.formats.specs.Reader.{Reader, Answer, ok, short, bad, mapped, readAt, bind, map, each, times}
-use Rattle.formats.specs.Compose.{at-done, at-map, at-within, at-bind-ok, at-bind-short, at-bind-bad}
+use Rattle.formats.specs.Reader.{Reader, Answer, ok, short, bad, mapped, readAt, bind, map, each, times, literal}
+use Rattle.formats.specs.Compose.{at-done, at-short, at-pass, at-fail, at-map, at-within, at-bind-ok, at-bind-short, at-bind-bad}
 use Rattle.formats.specs.declared.Outcome.{Outcome}
 use Rattle.formats.specs.declared.Outcome.the-variants.{Done, Short, Bad}
 
@@ -122,3 +129,36 @@ module _ {A : Type 0} (r : Reader A) (s : List ℕ) (step : ℕ → Outcome) (on
   unfolding told times repeated
   times-repeated zero at h = ap told (at-done [] s at)
   times-repeated (suc n) at h = times-by n at (step at) h (one at h) (times-repeated n)
+
+-- certain bytes from a place on, one by one
+unfoldable pub matched : List ℕ → ℕ → List ℕ → ℕ → Outcome
+matched s at [] k = Done at
+matched s at (b ∷ l) k = cond (leb (length s) at) Short (cond (eqb (getD s at 0) b) (matched s (at + 1) l k) (Bad k at))
+
+module _ (s : List ℕ) (at b : ℕ) (l : List ℕ) (k : ℕ) where
+  pub matched-short : length s ≤ at → matched s at (b ∷ l) k ≡ Short
+  unfolding matched
+  matched-short h = rw (le-leb (length s) at h)
+
+  pub matched-bad : at < length s → (getD s at 0 ≡ b → ⊥) → matched s at (b ∷ l) k ≡ Bad k at
+  unfolding matched
+  matched-bad h e = rw (lt-leb (length s) at h, ne-eqb (getD s at 0) b e)
+
+  pub matched-next : at < length s → getD s at 0 ≡ b → matched s at (b ∷ l) k ≡ matched s (at + 1) l k
+  unfolding matched
+  matched-next h e = rw (lt-leb (length s) at h, eq-eqb (getD s at 0) b e)
+
+pub literal-told : (k : ℕ) (l : List ℕ) (h : T (areBytes l)) (s : List ℕ) (at : ℕ) → told (readAt (literal k l h) s at) ≡ matched s at l k
+unfolding literal matched told
+literal-told k [] h s at = ap told (at-done tt s at)
+literal-told k (b ∷ l) h s at =
+    by-cases
+    (decLt at (length s))
+    (λ q. by-test q (eqb (getD s at 0) b) refl (λ g. literal-told k l g s (at + 1)))
+    (λ q. ap told (at-short _ _ s at (omega arith)) ∙ sym (matched-short s at b l k (omega arith)))
+  where
+    by-test : at < length s → (t : Bool) → eqb (getD s at 0) b ≡ t → ((g : T (areBytes l)) → told (readAt (literal k l g) s (at + 1)) ≡ matched s (at + 1) l k)
+        → told (readAt (literal k (b ∷ l) h) s at) ≡ matched s at (b ∷ l) k
+    by-test q true e rest =
+        ap told (at-pass _ _ s at q e) ∙ rest (and-r (ltb b 256) (areBytes l) h) ∙ sym (matched-next s at b l k q (eqb-true (getD s at 0) b e))
+    by-test q false e rest = ap told (at-fail _ _ s at q e) ∙ sym (matched-bad s at b l k q (eqb-false (getD s at 0) b e))

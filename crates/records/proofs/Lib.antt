@@ -1,3 +1,5 @@
+pub mod Opening
+pub mod Fronts
 pub mod Samples
 pub mod Walk
 pub mod Extended

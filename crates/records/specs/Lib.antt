@@ -6,6 +6,8 @@ pub mod Record
 pub mod Places
 pub mod Encoded
 pub mod Points
+pub mod Front
+pub mod Layout
 pub mod Nth
 pub mod Values
 pub mod Demands

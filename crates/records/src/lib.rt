@@ -9,21 +9,148 @@ ghost use mathlib.Core.Path.{_≡_};
 ghost use Prim.Native.Nat.{_+_, _*_, _-_, _≤_, _<_};
 ghost use lib.ListN.{length, drop};
 ghost use Rattle.formats.specs.Reader.{readAt, times, run};
-ghost use Rattle.formats.specs.Told.{told, repeated};
+ghost use Rattle.formats.specs.Told.{told, repeated, matched};
 ghost use Rattle.formats.specs.Jump.{ends};
 ghost use Rattle.records.specs.Record.{sample, point, extension, storedFrom, widths, width};
+ghost use Rattle.records.specs.Front.{marks, opened, channelled, front};
+ghost use Rattle.records.specs.Layout.{noFront, fronted, nowhereLaid, laidExtension, laidPoints, layoutOf};
 ghost use Rattle.records.specs.Points.{sampled, taken, seat, placesAt, switched};
 
-// What a sample point holds of a channel, and where it ends.
-enum Sample {
-    Number { value: i32, next: usize },
-    Missing,
+const IDENTIFIER: [u8; 4] = [0x53, 0x44, 0x49, 0x00];
+
+const VERSION: [u8; 4] = [0x20, 0x31, 0x30, 0x00];
+
+// Four certain bytes from a place on, or the refusal of the first that is another.
+fn bytes_at(s: &[u8], start: usize, expected: [u8; 4], fault: u8) -> Outcome
+    requires { ⌜ start ≤ length (now s) ⌝ }
+    ensures { λ r. ⌜ r ≡ matched (now (s .entry)) start expected fault ⌝ }
+{
+    let mut i: usize = 0;
+    while i < 4 {
+        if s.len() - start <= i {
+            return Outcome::Short;
+        }
+        if s[start + i] != expected[i] {
+            return Outcome::Bad(fault, start + i);
+        }
+        i += 1;
+    }
+    Outcome::Done(start + 4)
+}
+
+// The format identifier and the version (7.3.2, 7.3.3).
+fn marks_end(s: &[u8]) -> Outcome
+    ensures { λ r. ⌜ r ≡ told (run marks (now (s .entry))) ⌝ }
+{
+    match bytes_at(s, 0, IDENTIFIER, 2) {
+        Outcome::Done(at) => bytes_at(s, at, VERSION, 3),
+        Outcome::Short => Outcome::Short,
+        Outcome::Bad(k, p) => Outcome::Bad(k, p),
+    }
+}
+
+// What stands before the points: the channels, whether extended data are announced, and the number of points.
+struct Front {
+    description: Description,
+    announced: bool,
+    count: u32,
+}
+
+// How reading a front ended, and the front, which says nothing where there is none.
+struct Fronted {
+    outcome: Outcome,
+    front: Front,
+}
+
+fn no_front(outcome: Outcome) -> Fronted
+    ensures { λ r. ⌜ r ≡ noFront outcome ⌝ }
+{
+    let description = descriptions::nothing();
+    Fronted {
+        outcome: outcome,
+        front: Front {
+            description: description,
+            announced: false,
+            count: 0,
+        },
+    }
+}
+
+fn triple(high: u8, middle: u8, low: u8) -> u32
+    ensures { λ r. ⌜ r ≡ (high * 256 + middle) * 256 + low ⌝ }
+{
+    ((high as u32) * 256 + (middle as u32)) * 256 + (low as u32)
+}
+
+// The header's reserved byte (7.3.5), the body's opening byte (7.4.1) and the count of points (7.4.2).
+fn opened_at(s: &[u8], at: usize, description: Description) -> Fronted
+    requires { ⌜ at ≤ length (now s) ⌝ }
+    ensures { λ r. ⌜ r ≡ fronted (readAt (opened description) (now (s .entry)) at) ⌝ }
+{
+    if s.len() - at < 1 {
+        return no_front(Outcome::Short);
+    }
+    if s[at] != 0 {
+        return no_front(Outcome::Bad(6, at));
+    }
+    if s.len() - at < 2 {
+        return no_front(Outcome::Short);
+    }
+    let opening = s[at + 1];
+    if opening % 128 != 0 {
+        return no_front(Outcome::Bad(7, at + 1));
+    }
+    if s.len() - at < 5 {
+        return no_front(Outcome::Short);
+    }
+    Fronted {
+        outcome: Outcome::Done(at + 5),
+        front: Front {
+            description: description,
+            announced: opening == 128,
+            count: triple(s[at + 2], s[at + 3], s[at + 4]),
+        },
+    }
+}
+
+// The front of a record: all that stands before its points.
+fn front_of(s: &[u8]) -> Fronted
+    ensures { λ r. ⌜ r ≡ fronted (run front (now (s .entry))) ⌝ }
+{
+    match marks_end(s) {
+        Outcome::Done(at) => described_at(s, at),
+        Outcome::Short => no_front(Outcome::Short),
+        Outcome::Bad(k, p) => no_front(Outcome::Bad(k, p)),
+    }
+}
+
+// The channels, and what stands between them and the points.
+fn described_at(s: &[u8], at: usize) -> Fronted
+    requires { ⌜ at ≤ length (now s) ⌝ }
+    ensures { λ r. ⌜ r ≡ fronted (readAt channelled (now (s .entry)) at) ⌝ }
+{
+    let described = descriptions::read(s, at, Format::Full);
+    let outcome = described.outcome;
+    match outcome {
+        Outcome::Done(next) => {
+            let description = described.description;
+            opened_at(s, next, description)
+        }
+        Outcome::Short => no_front(Outcome::Short),
+        Outcome::Bad(k, p) => no_front(Outcome::Bad(k, p)),
+    }
 }
 
 fn pair(high: u8, low: u8) -> u16
     ensures { λ r. ⌜ r ≡ high * 256 + low ⌝ }
 {
     (high as u16) * 256 + (low as u16)
+}
+
+// What a sample point holds of a channel, and where it ends.
+enum Sample {
+    Number { value: i32, next: usize },
+    Missing,
 }
 
 // A channel's number in a sample point (7.4.2): one byte for S, two for any other channel.
@@ -199,4 +326,69 @@ fn extension_end(s: &[u8], start: usize, announced: bool) -> Outcome
     }
     let size = pair(s[start], s[start + 1]);
     jump(s, start + 2, size as usize)
+}
+
+// Where the parts of a record lie: how it ended, its front, the place of the first point, and the place behind the last.
+struct Layout {
+    outcome: Outcome,
+    front: Front,
+    points: usize,
+    extension: usize,
+}
+
+fn unlaid(outcome: Outcome) -> Layout
+    ensures { λ r. ⌜ r ≡ nowhereLaid outcome ⌝ }
+{
+    let fronted = no_front(outcome);
+    let front = fronted.front;
+    Layout {
+        outcome: outcome,
+        front: front,
+        points: 0,
+        extension: 0,
+    }
+}
+
+// The record that some bytes begin with, part by part.
+fn laid(s: &[u8]) -> Layout
+    ensures { λ r. ⌜ r ≡ layoutOf (now (s .entry)) ⌝ }
+{
+    let fronted = front_of(s);
+    let outcome = fronted.outcome;
+    match outcome {
+        Outcome::Done(at) => {
+            let front = fronted.front;
+            laid_points(s, front, at)
+        }
+        Outcome::Short => unlaid(Outcome::Short),
+        Outcome::Bad(k, p) => unlaid(Outcome::Bad(k, p)),
+    }
+}
+
+fn laid_points(s: &[u8], front: Front, points: usize) -> Layout
+    requires { ⌜ points ≤ length (now s) ⌝ }
+    ensures { λ r. ⌜ r ≡ laidPoints (now (s .entry)) front points ⌝ }
+{
+    let description = front.description;
+    match judge_points(s, points, description, front.count) {
+        Outcome::Done(at) => laid_extension(s, front, points, at),
+        Outcome::Short => unlaid(Outcome::Short),
+        Outcome::Bad(k, p) => unlaid(Outcome::Bad(k, p)),
+    }
+}
+
+fn laid_extension(s: &[u8], front: Front, points: usize, extension: usize) -> Layout
+    requires { ⌜ extension ≤ length (now s) ⌝ }
+    ensures { λ r. ⌜ r ≡ laidExtension (now (s .entry)) front points extension ⌝ }
+{
+    match extension_end(s, extension, front.announced) {
+        Outcome::Done(end) => Layout {
+            outcome: Outcome::Done(end),
+            front: front,
+            points: points,
+            extension: extension,
+        },
+        Outcome::Short => unlaid(Outcome::Short),
+        Outcome::Bad(k, p) => unlaid(Outcome::Bad(k, p)),
+    }
 }

@@ -1,0 +1,20 @@
+-- Each public function has one answer: whatever meets its promise is the same.
+use mathlib.Core.Path.{_≡_}
+use mathlib.Core.List.{List}
+use Prim.Native.Nat.{ℕ}
+use Rattle.formats.specs.Reader.{readAt}
+use Rattle.formats.specs.OneAnswer.{OneAnswer, named}
+use Rattle.channels.specs.Channel.{widthOf}
+use Rattle.channels.specs.declared.Descriptor.{Descriptor}
+use Rattle.channels.specs.declared.Format.{Format}
+use Rattle.descriptions.specs.Description.{description, isStored}
+use Rattle.descriptions.specs.Read.{nothing, described}
+
+pub one-stored : (d : Descriptor) → OneAnswer (λ r. r ≡ isStored d)
+one-stored d = named
+
+pub one-nothing : OneAnswer (λ r. r ≡ nothing)
+one-nothing = named
+
+pub one-described : (s : List ℕ) (start : ℕ) (format : Format) → OneAnswer (λ r. r ≡ described (readAt (description (widthOf format)) s start))
+one-described s start format = named

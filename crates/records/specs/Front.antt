@@ -1,0 +1,62 @@
+-- A record in two parts: its front, all that stands before the points, and its body, the points and the extended data.
+use mathlib.Core.Path.{_≡_, refl, sym, _∙_}
+use mathlib.Core.List.{List, [], _∷_}
+use Prim.Native.Nat.{ℕ}
+use Rattle.formats.specs.Reader.{Reader, done, byte, bind, one, literal, times, _>>=_, _>>_}
+use Rattle.formats.specs.Binary.{bit}
+use Rattle.formats.specs.Number.{number}
+use Rattle.channels.specs.declared.Description.{Description}
+use Rattle.descriptions.specs.Description.{description}
+use Rattle.records.specs.Record.{Record, identifierBytes, versionBytes, opening, point, extension, fullRecord}
+use Rattle.records.specs.declared.Front.{Front}
+
+-- the format identifier and the version
+unfoldable pub marks : Reader (Unit {0})
+marks = do
+  literal 2 identifierBytes tt
+  literal 3 versionBytes tt
+
+-- the reserved byte, the opening byte and the count, behind a description
+unfoldable pub opened : Description → Reader Front
+opened d = do
+  literal 6 (0x00 ∷ []) tt
+  b ← one opening
+  count ← number 3
+  done (record { description = d; announced = bit 8 b; count = count })
+
+unfoldable pub channelled : Reader Front
+channelled = do
+  d ← description 2
+  opened d
+
+unfoldable pub front : Reader Front
+front = do
+  marks
+  channelled
+
+-- the points and the extended data, as the front has them
+unfoldable pub body : Front → Reader Record
+body f = do
+  points ← times (f .count) (point (f .description))
+  extended ← extension (f .announced)
+  done (record { description = f .description; points = points; extended = extended })
+
+-- ---- They are the whole
+
+bind-assoc : {A B C : Type 0} (r : Reader A) (k : A → Reader B) (l : B → Reader C) → bind (bind r k) l ≡ bind r (λ v. bind (k v) l)
+unfolding bind
+bind-assoc (done v) k l = refl
+bind-assoc (byte c f) k l = λ i. byte c (λ b. bind-assoc (f b) k l i)
+
+opened-body : (d : Description) → bind (opened d) body
+    ≡ bind (literal 6 (0x00 ∷ []) tt) (λ u. bind (one opening) (λ b. bind (number 3) (λ count. body (record { description = d; announced = bit 8 b; count = count }))))
+unfolding opened bind literal one
+opened-body d = λ i. bind (literal 6 (0x00 ∷ []) tt) (λ u. bind (one opening) (λ b. bind-assoc (number 3) _ body i))
+
+front-body : bind front body ≡ bind marks (λ u. bind (description 2) (λ d. bind (opened d) body))
+unfolding front channelled
+front-body = bind-assoc marks _ body ∙ (λ i. bind marks (λ u. bind-assoc (description 2) opened body i))
+
+pub in-two : fullRecord ≡ bind front body
+unfolding fullRecord body marks literal bind
+in-two = sym (front-body ∙ (λ i. bind marks (λ u. bind (description 2) (λ d. opened-body d i))))
