@@ -85,3 +85,12 @@ fixed-map {A} {B} g r w f s at v n h e = go (readAt r s at) refl (sym (at-map g 
     go (ok u m) q z = let m-is : m ≡ n = cc in sym m-is ∙ f s at u m h q
     go short q z = impossible (cc)
     go (bad k p) q z = impossible (cc)
+
+pub fixed-times : {A : Type 0} (r : Reader A) (w : ℕ) → Fixed r w → (k : ℕ) → Fixed (times k r) (k * w)
+unfolding times
+fixed-times r w f zero s at vs n h e = let z : 0 * w ≡ 0 = omega arith in rw z (fixed-done [] s at vs n h e)
+fixed-times r w f (suc k) s at vs n h e =
+    let p = parts s (readAt r s at) (readAt (times k r) s) (sym (at-times s at k r) ∙ e) in
+    let a : p .place ≡ at + w = f s at (p .head) (p .place) h (p .first) in
+    let b : n ≡ p .place + k * w = fixed-times r w f k s (p .place) (p .tail) n (at-within r s at (p .first) h .1) (p .second) in
+    omega arith

@@ -1,6 +1,6 @@
 -- A theory of readers of byte strings, in which formats are written. It knows nothing of signatures.
 -- What a format is: `Bytes` has strings of bytes, `Binary` a number by its bits, `Reader` readers and what they answer, `Number` big-endian numbers,
--- `OneAnswer` what it is to have no second answer.
+-- `OneAnswer` what it is to have no second answer, `Part` what a part of a lent slice is.
 -- What every reader obeys: `Law`, and `Settled` for a refusal found from the beginnings.
 -- What encodings are: `Writes`. What the number of a refusal says: `Faults`.
 -- What code is proved by: `Compose` goes from a place of a string part by part, `Told` says what code tells of it, `Jump` passes over free bytes,
@@ -9,6 +9,7 @@ pub mod Bytes
 pub mod Binary
 pub mod Reader
 pub mod OneAnswer
+pub mod Part
 pub mod Law
 pub mod Settled
 pub mod Compose

@@ -2,5 +2,7 @@ pub mod Opening
 pub mod Fronts
 pub mod Samples
 pub mod Walk
-pub mod Extended
+pub mod Extension
 pub mod Seats
+pub mod Verdicts
+pub mod Whole

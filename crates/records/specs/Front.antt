@@ -51,7 +51,7 @@ bind-assoc (byte c f) k l = λ i. byte c (λ b. bind-assoc (f b) k l i)
 opened-body : (d : Description) → bind (opened d) body
     ≡ bind (literal 6 (0x00 ∷ []) tt) (λ u. bind (one opening) (λ b. bind (number 3) (λ count. body (record { description = d; announced = bit 8 b; count = count }))))
 unfolding opened bind literal one
-opened-body d = λ i. bind (literal 6 (0x00 ∷ []) tt) (λ u. bind (one opening) (λ b. bind-assoc (number 3) _ body i))
+opened-body d = λ i. bind (literal 6 (0x00 ∷ []) tt) (λ u. bind (one opening) (λ b. bind-assoc (number 3) (λ count. done (record { description = d; announced = bit 8 b; count = count })) body i))
 
 front-body : bind front body ≡ bind marks (λ u. bind (description 2) (λ d. bind (opened d) body))
 unfolding front channelled

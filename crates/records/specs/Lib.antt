@@ -8,6 +8,8 @@ pub mod Encoded
 pub mod Points
 pub mod Front
 pub mod Layout
+pub mod Verdict
+pub mod Laid
 pub mod Nth
 pub mod Values
 pub mod Demands

@@ -11,9 +11,11 @@ ghost use lib.ListN.{length, drop};
 ghost use Rattle.formats.specs.Reader.{readAt, times, run};
 ghost use Rattle.formats.specs.Told.{told, repeated, matched};
 ghost use Rattle.formats.specs.Jump.{ends};
-ghost use Rattle.records.specs.Record.{sample, point, extension, storedFrom, widths, width};
+ghost use Rattle.formats.specs.Part.{Part};
+ghost use Rattle.records.specs.Record.{sample, point, extension, fullRecord, storedFrom, widths};
 ghost use Rattle.records.specs.Front.{marks, opened, channelled, front};
 ghost use Rattle.records.specs.Layout.{noFront, fronted, nowhereLaid, laidExtension, laidPoints, layoutOf};
+ghost use Rattle.records.specs.Verdict.{faultOf, judged, judgedWhole, extendedPlace, extendedSize, restPlace, restSize, pointedAt, placesIn};
 ghost use Rattle.records.specs.Points.{sampled, taken, seat, placesAt, switched};
 
 const IDENTIFIER: [u8; 4] = [0x53, 0x44, 0x49, 0x00];
@@ -390,5 +392,200 @@ fn laid_extension(s: &[u8], front: Front, points: usize, extension: usize) -> La
         },
         Outcome::Short => unlaid(Outcome::Short),
         Outcome::Bad(k, p) => unlaid(Outcome::Bad(k, p)),
+    }
+}
+
+// Why bytes are refused, in the order of the refusals' numbers: 2 to 9.
+pub enum Fault {
+    Identifier,
+    Version,
+    XOrY,
+    ReservedBit,
+    ReservedByte,
+    OpeningBits,
+    Switch,
+    LeftOver,
+}
+
+// What is judged of some bytes. Short is refusal 1.
+pub enum Verdict {
+    Record {
+        length: usize,
+        count: u32,
+        extended: bool,
+    },
+    Short,
+    Refused {
+        fault: Fault,
+        place: usize,
+    },
+}
+
+// A verdict, and the record's tidy description, which says nothing of any channel where there is no record.
+pub struct Judged {
+    pub verdict: Verdict,
+    pub description: Description,
+}
+
+fn fault_of(number: u8) -> Fault
+    ensures { λ r. ⌜ r ≡ faultOf number ⌝ }
+{
+    match number {
+        0..=2 => Fault::Identifier,
+        3 => Fault::Version,
+        4 => Fault::XOrY,
+        5 => Fault::ReservedBit,
+        6 => Fault::ReservedByte,
+        7 => Fault::OpeningBits,
+        8 => Fault::Switch,
+        _ => Fault::LeftOver,
+    }
+}
+
+// The front of some bytes.
+pub fn judge(bytes: &[u8]) -> Judged
+    ensures { λ r. ⌜ r ≡ judged (run fullRecord (now (bytes .entry))) ⌝ }
+{
+    let layout = laid(bytes);
+    let front = layout.front;
+    let description = front.description;
+    let outcome = layout.outcome;
+    match outcome {
+        Outcome::Done(end) => Judged {
+            verdict: Verdict::Record {
+                length: end,
+                count: front.count,
+                extended: front.announced,
+            },
+            description: description,
+        },
+        Outcome::Short => Judged {
+            verdict: Verdict::Short,
+            description: description,
+        },
+        Outcome::Bad(number, place) => Judged {
+            verdict: Verdict::Refused {
+                fault: fault_of(number),
+                place: place,
+            },
+            description: description,
+        },
+    }
+}
+
+// A whole slice: the same, and nothing may follow.
+pub fn judge_whole(bytes: &[u8]) -> Judged
+    ensures { λ r. ⌜ r ≡ judgedWhole (length (now (bytes .entry))) (run fullRecord (now (bytes .entry))) ⌝ }
+{
+    let front = judge(bytes);
+    let verdict = front.verdict;
+    match verdict {
+        Verdict::Record {
+            length,
+            count: _,
+            extended: _,
+        } => {
+            if length < bytes.len() {
+                let description = descriptions::nothing();
+                return Judged {
+                    verdict: Verdict::Refused {
+                        fault: Fault::LeftOver,
+                        place: length,
+                    },
+                    description: description,
+                };
+            }
+            front
+        }
+        Verdict::Short => front,
+        Verdict::Refused { fault: _, place: _ } => front,
+    }
+}
+
+// The extended data of the record that some bytes begin with: the caller's own bytes. Empty at the record's end where it has none,
+// and at the start where there is no record.
+pub fn extended<'a>(bytes: &'a [u8]) -> &'a [u8]
+    ensures { λ r. ⌜ Part (bytes .entry) r (extendedPlace (run fullRecord (now (bytes .entry)))) (extendedSize (run fullRecord (now (bytes .entry)))) ⌝ }
+{
+    let layout = laid(bytes);
+    let outcome = layout.outcome;
+    match outcome {
+        Outcome::Done(end) => {
+            let front = layout.front;
+            if front.announced {
+                let start = layout.extension + 2;
+                &bytes[start..end]
+            } else {
+                &bytes[end..end]
+            }
+        }
+        Outcome::Short => &bytes[0..0],
+        Outcome::Bad(_, _) => &bytes[0..0],
+    }
+}
+
+// The bytes behind the record that some bytes begin with: the caller's own. Empty at the start where there is no record.
+pub fn rest<'a>(bytes: &'a [u8]) -> &'a [u8]
+    ensures { λ r. ⌜ Part (bytes .entry) r (restPlace (run fullRecord (now (bytes .entry)))) (restSize (length (now (bytes .entry))) (run fullRecord (now (bytes .entry)))) ⌝ }
+{
+    let layout = laid(bytes);
+    let outcome = layout.outcome;
+    match outcome {
+        Outcome::Done(end) => &bytes[end..],
+        Outcome::Short => &bytes[0..0],
+        Outcome::Bad(_, _) => &bytes[0..0],
+    }
+}
+
+// Whether a record has a point of some index, counted from 0. NoPoint is refusal 10.
+pub enum Pointed {
+    Point,
+    NoPoint,
+    Short,
+    Refused { fault: Fault, place: usize },
+}
+
+// The front is judged first; bytes behind the record are allowed.
+pub fn judge_point(bytes: &[u8], index: usize) -> Pointed
+    ensures { λ r. ⌜ r ≡ pointedAt index (run fullRecord (now (bytes .entry))) ⌝ }
+{
+    let layout = laid(bytes);
+    let outcome = layout.outcome;
+    match outcome {
+        Outcome::Done(_) => {
+            let front = layout.front;
+            if index < (front.count as usize) {
+                Pointed::Point
+            } else {
+                Pointed::NoPoint
+            }
+        }
+        Outcome::Short => Pointed::Short,
+        Outcome::Bad(number, place) => Pointed::Refused {
+            fault: fault_of(number),
+            place: place,
+        },
+    }
+}
+
+// One sample point as sixteen places, all absent where there is no such point.
+pub fn point(bytes: &[u8], index: usize) -> [Place; 16]
+    ensures { λ r. ⌜ r ≡ placesIn index (run fullRecord (now (bytes .entry))) ⌝ }
+{
+    let layout = laid(bytes);
+    let outcome = layout.outcome;
+    match outcome {
+        Outcome::Done(_) => {
+            let front = layout.front;
+            let description = front.description;
+            if index < (front.count as usize) {
+                let width = width_from(description, 0);
+                point_at(bytes, layout.points + index * width, description)
+            } else {
+                [Place::Absent; 16]
+            }
+        }
+        Outcome::Short => [Place::Absent; 16],
+        Outcome::Bad(_, _) => [Place::Absent; 16],
     }
 }
