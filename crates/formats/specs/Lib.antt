@@ -4,9 +4,10 @@
 -- What every reader obeys: `Law`, and `Settled` for a refusal found from the beginnings.
 -- What encodings are: `Writes`. What the number of a refusal says: `Faults`.
 -- What code is proved by: `Compose` goes from a place of a string part by part, `Told` says what code tells of it, `Jump` passes over free bytes,
--- `Gathered` reads parts into an array, `Fixed` finds the ith of many equal parts, `Put` writes bytes at a place.
+-- `Gathered` reads parts into an array, `Fixed` finds the ith of many equal parts, `Put` writes bytes at a place and `Laid` one string behind the other, `Ascend` makes a number from bits.
 pub mod Bytes
 pub mod Binary
+pub mod Ascend
 pub mod Reader
 pub mod OneAnswer
 pub mod Part
@@ -21,3 +22,4 @@ pub mod Jump
 pub mod Gathered
 pub mod Fixed
 pub mod Put
+pub mod Laid

@@ -6,3 +6,4 @@ pub mod Extension
 pub mod Seats
 pub mod Verdicts
 pub mod Whole
+pub mod Laying

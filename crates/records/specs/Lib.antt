@@ -12,6 +12,7 @@ pub mod Verdict
 pub mod Laid
 pub mod Nth
 pub mod Values
+pub mod Write
 pub mod Demands
 pub mod Rules
 pub mod Blame

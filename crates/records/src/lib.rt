@@ -3,19 +3,27 @@ use channels::Description;
 use channels::Descriptor;
 use channels::Format;
 use channels::Place;
+use channels::Stored;
 use channels::Switch;
 use formats::Outcome;
 ghost use mathlib.Core.Path.{_≡_};
-ghost use Prim.Native.Nat.{_+_, _*_, _-_, _≤_, _<_};
+ghost use mathlib.Core.Bool.{true};
+ghost use mathlib.Core.List.{flatMap};
+ghost use Prim.Native.Nat.{_+_, _*_, _/_, _%_, _≤_, _<_};
 ghost use lib.ListN.{length, drop};
 ghost use Rattle.formats.specs.Reader.{readAt, times, run};
 ghost use Rattle.formats.specs.Told.{told, repeated, matched};
 ghost use Rattle.formats.specs.Jump.{ends};
 ghost use Rattle.formats.specs.Part.{Part};
-ghost use Rattle.records.specs.Record.{sample, point, extension, fullRecord, storedFrom, widths};
+ghost use Rattle.formats.specs.Number.{digits};
+ghost use Rattle.formats.specs.Writes.{encodeEach};
+ghost use Rattle.formats.specs.Laid.{Room, Laid};
+ghost use Rattle.records.specs.Record.{sample, point, extension, fullRecord, storedFrom, stored, widths, encodeSample, encodePoint, fitsSample};
+ghost use Rattle.records.specs.Values.{pointsOf};
 ghost use Rattle.records.specs.Front.{marks, opened, channelled, front};
 ghost use Rattle.records.specs.Layout.{noFront, fronted, nowhereLaid, laidExtension, laidPoints, layoutOf};
 ghost use Rattle.records.specs.Verdict.{faultOf, judged, judgedWhole, extendedPlace, extendedSize, restPlace, restSize, pointedAt, placesIn};
+ghost use Rattle.records.specs.Write.{fitsEach, fitsRow};
 ghost use Rattle.records.specs.Points.{sampled, taken, seat, placesAt, switched};
 
 const IDENTIFIER: [u8; 4] = [0x53, 0x44, 0x49, 0x00];
@@ -588,4 +596,192 @@ pub fn point(bytes: &[u8], index: usize) -> [Place; 16]
         Outcome::Short => [Place::Absent; 16],
         Outcome::Bad(_, _) => [Place::Absent; 16],
     }
+}
+
+// What became of a record that was to be written: its length, or why there is none, in the order of the stages.
+pub enum Written {
+    Record { length: usize },
+    XOrY,
+    Untidy,
+    AttributeRange,
+    CountRange,
+    Amount,
+    ValueRange,
+    ExtendedSize,
+    Room,
+}
+
+// How many numbers a sample point holds.
+fn stored_count(d: Description) -> usize
+    ensures { λ r. ⌜ (r ≡ length (stored d)) × (r ≤ 16) ⌝ }
+{
+    let mut n: usize = 0;
+    let mut i: usize = 0;
+    while i < 16 {
+        let c = d.channels[i];
+        if descriptions::is_stored(c) {
+            n += 1;
+        }
+        i += 1;
+    }
+    n
+}
+
+// Whether a number is in its channel's range: S is a state, and any other is what two bytes hold.
+fn sample_fits(channel: usize, value: i32) -> bool
+    ensures { λ r. ⌜ r ≡ fitsSample channel value ⌝ }
+{
+    let stored = if channel == channels::S {
+        channels::byte_of(value)
+    } else {
+        channels::stored_of(Format::Full, channels::is_signed(channel), value)
+    };
+    match stored {
+        Stored::Number(_) => true,
+        Stored::Outside => false,
+    }
+}
+
+// Whether the values from a place on are in the ranges of a point's channels.
+fn point_fits(values: &[i32], from: usize, d: Description) -> bool
+    requires { ⌜ from + length (stored d) ≤ length (now values) ⌝ }
+    ensures { λ r. ⌜ r ≡ fitsEach (stored d) (drop from (now (values .entry))) ⌝ }
+{
+    let mut j = from;
+    let mut i: usize = 0;
+    while i < 16 {
+        let c = d.channels[i];
+        if descriptions::is_stored(c) {
+            let value = values[j];
+            if !sample_fits(i, value) {
+                return false;
+            }
+            j += 1;
+        }
+        i += 1;
+    }
+    true
+}
+
+// The values of n points, point by point.
+fn values_fit(values: &[i32], n: usize, d: Description) -> bool
+    requires { ⌜ (length (now values) ≡ n * length (stored d)) ⌝ }
+    ensures { λ r. ⌜ r ≡ fitsRow d n (now (values .entry)) ⌝ }
+{
+    let size = stored_count(d);
+    if size == 0 {
+        return true;
+    }
+    let mut from: usize = 0;
+    let mut i: usize = 0;
+    while i < n {
+        if !point_fits(values, from, d) {
+            return false;
+        }
+        from += size;
+        i += 1;
+    }
+    true
+}
+
+fn high(number: u16) -> u8
+    ensures { λ r. ⌜ r ≡ number / 256 ⌝ }
+{
+    (number / 256) as u8
+}
+
+fn low(number: u16) -> u8
+    ensures { λ r. ⌜ r ≡ number % 256 ⌝ }
+{
+    (number % 256) as u8
+}
+
+// Two bytes are put, the high one first; this and each that follows answers where the next goes.
+fn put_pair(out: &mut [u8], at: usize, number: u16) -> usize
+    requires { ⌜ Room (now out) at (digits 2 number) ⌝ }
+    ensures { λ r. ⌜ Laid (now (out .entry)) at (digits 2 number) (now (out .exit)) r ⌝ }
+{
+    out[at] = high(number);
+    out[at + 1] = low(number);
+    at + 2
+}
+
+// A number of a sample point that fits is put.
+fn put_sample(out: &mut [u8], at: usize, channel: usize, value: i32) -> usize
+    requires { ⌜ (fitsSample channel value ≡ true) × Room (now out) at (encodeSample channel value) ⌝ }
+    ensures { λ r. ⌜ Laid (now (out .entry)) at (encodeSample channel value) (now (out .exit)) r ⌝ }
+{
+    if channel == channels::S {
+        match channels::byte_of(value) {
+            Stored::Number(byte) => {
+                out[at] = low(byte);
+                at + 1
+            }
+            Stored::Outside => at, // never: the number fits
+        }
+    } else {
+        match channels::stored_of(Format::Full, channels::is_signed(channel), value) {
+            Stored::Number(number) => put_pair(out, at, number),
+            Stored::Outside => at, // never: the number fits
+        }
+    }
+}
+
+// A sample point is put from the values that stand from a place on.
+fn put_point(
+    out: &mut [u8],
+    start: usize,
+    values: &[i32],
+    from: usize,
+    d: Description,
+) -> usize
+    requires { ⌜ (from + length (stored d) ≤ length (now values)) × (fitsEach (stored d) (drop from (now values)) ≡ true) × Room (now out) start (encodeEach encodeSample (stored d) (drop from (now values))) ⌝ }
+    ensures { λ r. ⌜ Laid (now (out .entry)) start (encodeEach encodeSample (stored d) (drop from (now (values .entry)))) (now (out .exit)) r ⌝ }
+{
+    let mut at = start;
+    let mut j = from;
+    let mut i: usize = 0;
+    while i < 16 {
+        let c = d.channels[i];
+        if descriptions::is_stored(c) {
+            let value = values[j];
+            at = put_sample(out, at, i, value);
+            j += 1;
+        }
+        i += 1;
+    }
+    at
+}
+
+// The sample points are put, from values in stored order.
+fn put_points(out: &mut [u8], start: usize, values: &[i32], n: usize, d: Description) -> usize
+    requires { ⌜ (length (now values) ≡ n * length (stored d)) × (fitsRow d n (now values) ≡ true) × Room (now out) start (flatMap (encodePoint d) (pointsOf n (length (stored d)) (now values))) ⌝ }
+    ensures { λ r. ⌜ Laid (now (out .entry)) start (flatMap (encodePoint d) (pointsOf n (length (stored d)) (now (values .entry)))) (now (out .exit)) r ⌝ }
+{
+    let size = stored_count(d);
+    if size == 0 {
+        return start;
+    }
+    let mut at = start;
+    let mut from: usize = 0;
+    let mut i: usize = 0;
+    while i < n {
+        at = put_point(out, at, values, from, d);
+        from += size;
+        i += 1;
+    }
+    at
+}
+
+// Bytes are put as they are.
+fn put_bytes(out: &mut [u8], start: usize, bytes: &[u8]) -> usize
+    requires { ⌜ Room (now out) start (now bytes) ⌝ }
+    ensures { λ r. ⌜ Laid (now (out .entry)) start (now (bytes .entry)) (now (out .exit)) r ⌝ }
+{
+    let mut i: usize = 0;
+    while i < bytes.len() {
+        out[start + i] = bytes[i];
+        i += 1;
+    }
+    start + i
 }

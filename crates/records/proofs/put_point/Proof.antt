@@ -1,0 +1,152 @@
+-- `records::put_point` meets its contract. The invariant: what is left to lay of the point makes of these bytes what all of it makes of those at the start.
+use mathlib.Core.Path.{_≡_, refl, sym, ap, _∙_}
+use mathlib.Core.Bool.{true, false, _&&_}
+use mathlib.Core.List.{_++_}
+use mathlib.Core.Logic.{⊎-elim}
+use Prim.Native.Nat.{_≤_, _<_, _-_, _+_}
+use native.Mathlib.Omega.{arith}
+use borrow.Author.Needs.{needs}
+use lib.IntN.{pos}
+use lib.ListN.{length, drop, getD, length-map}
+use mir.Syntax.{w32}
+use mir.Val.{toZ, ofZ}
+use mir.ValLaws.{toZ-ofZ}
+use Rattle.formats.specs.Laid.{Owed, Laid, owed-all, owed-next, owed-none, owed-room, room-first}
+use Rattle.formats.specs.Writes.{encodeEach}
+use Rattle.descriptions.specs.Description.{absent, isStored}
+use Rattle.records.specs.Record.{stored, encodeSample, fitsSample}
+use Rattle.records.proofs.Laying.{many, fitting, left, pass-many, pass-fitting, pass-left, take-many, take-fitting, take-left, left-none, both}
+use Rattle.records.proofs.put_point.Statement.{statement}
+use Rattle.records.proofs.put_point.Tie as tie
+
+abbrev Inv-loop : tie.InvT-loop
+Inv-loop out₀ start values from d at₀ j₀ i₀ out at j i = (i ≤ 16) × (from + length (stored d) ≡ j + many (d .channels) values i) × (fitting (d .channels) values i j ≡ true) × Owed out₀ start (encodeEach encodeSample (stored d) (drop from values)) out at (left (d .channels) values i j)
+
+abbrev μ-loop : tie.MeasureT-loop
+μ-loop out₀ start values from d at₀ j₀ i₀ out at j i = 16 - i
+
+sixteen : (s : tie.Start Inv-loop μ-loop) → length (s .args .t5 .channels) ≡ 16
+sixteen s = simp length-map at (s .good .1 .1 .1 .1 .0 .1 .1 .0 .1 .0 .1)
+
+loop-holds : tie.Need-loop-holds Inv-loop μ-loop
+unfolding stored many fitting left
+loop-holds c = (omega arith, omega arith, c .before .pre .1, owed-all _ _ _)
+
+mul-c : tie.Need-mul-c Inv-loop μ-loop
+mul-c c = search needs
+
+element-copy-out-c : tie.Need-element-copy-out-c Inv-loop μ-loop
+element-copy-out-c c = search needs
+
+is-stored-requires : tie.Need-is-stored-requires Inv-loop μ-loop
+is-stored-requires c κs = search needs
+
+-- the next value is there, it fits, and its bytes come next
+module _ (c : tie.Then1 Inv-loop μ-loop) where
+  abbrev turn : tie.At-loop Inv-loop μ-loop
+  turn = c .before .before .before .before
+
+  abbrev value : lib.IntN.ℤ
+  value = getD (turn .before .before .args .values .now) (turn .loop .j) (pos 0)
+
+  within : turn .loop .i < length (turn .before .before .args .t5 .channels)
+  within = omega (arith, sixteen (turn .before .before))
+
+  is-stored : isStored (getD (turn .before .before .args .t5 .channels) (turn .loop .i) absent) ≡ true
+  is-stored = sym (c .before .is-stored .ensures) ∙ c .if1 .taken
+
+  there : turn .loop .j < length (turn .before .before .args .values .now)
+  there = omega (arith, turn .loop .inv .1, turn .before .before .pre .0, take-many (turn .before .before .args .t5 .channels) (turn .before .before .args .values .now) (turn .loop .i) 0 within is-stored)
+
+  fits : (fitsSample (turn .loop .i) value ≡ true) × (fitting (turn .before .before .args .t5 .channels) (turn .before .before .args .values .now) (turn .loop .i + 1) (turn .loop .j + 1) ≡ true)
+  fits =
+      let a = turn .before .before .args in
+      both _ _ (sym (take-fitting (a .t5 .channels) (a .values .now) (turn .loop .i) (turn .loop .j) within is-stored there) ∙ turn .loop .inv .2)
+
+  owed : Owed
+      (turn .before .before .args .out .now)
+      (turn .before .before .args .start)
+      (encodeEach encodeSample (stored (turn .before .before .args .t5)) (drop (turn .before .before .args .from) (turn .before .before .args .values .now)))
+      (turn .loop .out)
+      (turn .loop .at)
+      (encodeSample (turn .loop .i) value ++ left (turn .before .before .args .t5 .channels) (turn .before .before .args .values .now) (turn .loop .i + 1) (turn .loop .j + 1))
+  owed = let a = turn .before .before .args in rw (take-left (a .t5 .channels) (a .values .now) (turn .loop .i) (turn .loop .j) within is-stored there) at (turn .loop .inv .3)
+
+-- the value as the machine has it
+read : (c : tie.After-value Inv-loop μ-loop) → toZ w32 (ofZ w32 (value (c .before))) ≡ value (c .before)
+read c = toZ-ofZ w32 (value (c .before)) (search needs)
+
+mul-value : tie.Need-mul-value Inv-loop μ-loop
+mul-value c = let h = there c in search needs
+
+shared-slice-copy-out-value : tie.Need-shared-slice-copy-out-value Inv-loop μ-loop
+shared-slice-copy-out-value c = there c
+
+put-sample-requires : tie.Need-put-sample-requires Inv-loop μ-loop
+put-sample-requires c κs =
+    let t = c .before .before in
+    rw (read (c .before)) (fits t .0, room-first _ _ (owed-room (owed t) (turn t .before .before .pre .2)))
+
+add-j : tie.Need-add-j Inv-loop μ-loop
+add-j c = let h = there (c .before .before .before .before .before) in record { fits = omega arith }
+
+add-i : tie.Need-add-i Inv-loop μ-loop
+add-i c = omega arith
+
+loop-less : tie.Need-loop-less Inv-loop μ-loop
+loop-less c = omega arith
+
+loop-again : tie.Need-loop-again Inv-loop μ-loop
+loop-again c =
+    let b = c .before in
+    let l = b .before .before .before in
+    let a = l .before .before .args in
+    ⊎-elim
+    (λ w.
+    let t : tie.Then1 Inv-loop μ-loop = record { before = b; if1 = w .0 } in
+    let laid = rw (read (record { before = t; value = w .1 })) at (w .3 .ensures) in
+    rw (w .6, w .7, w .8) (
+      omega arith,
+      omega (arith, l .loop .inv .1, take-many (a .t5 .channels) (a .values .now) (l .loop .i) 0 (within t) (is-stored t)),
+      fits t .1,
+      owed-next (owed t) laid,
+    ))
+    (λ w.
+    let h : l .loop .i < length (a .t5 .channels) = omega (arith, sixteen (l .before .before)) in
+    let e = sym (b .is-stored .ensures) ∙ w .0 .left in
+    rw (w .1, w .2, w .3) (
+      omega arith,
+      omega (arith, l .loop .inv .1, pass-many (a .t5 .channels) (a .values .now) (l .loop .i) 0 h e),
+      sym (pass-fitting (a .t5 .channels) (a .values .now) (l .loop .i) (l .loop .j) h e) ∙ l .loop .inv .2,
+      rw (pass-left (a .t5 .channels) (a .values .now) (l .loop .i) (l .loop .j) h e) at (l .loop .inv .3),
+    ))
+    (c .if1 .came)
+
+same-length : tie.Need-same-length Inv-loop μ-loop
+same-length c = c .before .loop .inv .3 .kept
+
+returns : tie.Need-returns Inv-loop μ-loop
+returns c = 
+    let l = c .before in
+    let a = l .before .before .args in
+    owed-none (rw (left-none (a .t5 .channels) (a .values .now) (l .loop .i) (l .loop .j) (omega (arith, sixteen (l .before .before)))) at (l .loop .inv .3))
+
+pub put-point-spec : {M : Type 1} → statement M
+put-point-spec =
+    tie.close
+    (tie.spec
+    Inv-loop
+    μ-loop
+    loop-holds
+    mul-c
+    element-copy-out-c
+    is-stored-requires
+    mul-value
+    shared-slice-copy-out-value
+    put-sample-requires
+    add-j
+    add-i
+    loop-less
+    loop-again
+    same-length
+    returns)
