@@ -3,18 +3,21 @@ use mathlib.Core.Path.{_≡_, refl, sym, ap, ap₂, _∙_}
 use mathlib.Core.Bool.{Bool, true, false, cond, _&&_}
 use mathlib.Core.List.{List, [], _∷_, _++_, flatMap}
 use mathlib.Core.Logic.{by-cases}
-use Prim.Native.Nat.{ℕ, zero, suc, _+_, _-_, _*_, _%_, _≤_, _<_}
+use mathlib.Core.Option.{some, none}
+use Prim.Native.Nat.{ℕ, zero, suc, _+_, _-_, _*_, _/_, _%_, _≤_, _<_}
 use native.Mathlib.Decide.{decLt}
 use native.Mathlib.Numerals.{add-one}
 use native.Mathlib.Omega.{arith}
-use borrow.Author.Tests.{ne-eqb}
+use borrow.Author.Tests.{ne-eqb, le-leb}
 use lib.Dec.{T, eqb}
 use lib.Ieee.Fits.{and-l, and-r}
 use lib.IntN.{ℤ, pos}
-use lib.ListN.{length, getD, take, drop, drop-of-length-le, length-append, length-drop}
+use lib.ListN.{length, getD, set, take, drop, drop-of-length-le, length-append, length-drop}
 use lib.Seq.{drop-cons, drop-drop}
 use Rattle.formats.specs.Bytes.{impossible}
 use Rattle.formats.specs.Number.{digits, length-digits}
+use Rattle.formats.specs.Put.{puts}
+use Rattle.formats.specs.Laid.{Room, Laid}
 use Rattle.formats.specs.Writes.{All, Each, encodeEach}
 use Rattle.channels.specs.Channel.{S, signedOf}
 use Rattle.channels.specs.Stored.{storedOf, storedIf, fits}
@@ -23,10 +26,14 @@ use Rattle.channels.specs.declared.Stored.{Stored}
 use Rattle.channels.specs.declared.Stored.the-variants.{Number, Outside}
 use Rattle.channels.specs.declared.Descriptor.{Descriptor}
 use Rattle.channels.specs.declared.Description.{Description}
-use Rattle.descriptions.specs.Description.{absent, isStored}
-use Rattle.records.specs.Record.{storedFrom, stored, widths, width, fitsSample, encodeSample, encodePoint, ValidPoint}
+use Rattle.descriptions.specs.Description.{absent, isStored, encodeDescription}
+use Rattle.descriptions.specs.Write.{flawOf, putting, putRoom, putFlaw, putIf}
+use Rattle.descriptions.specs.declared.Flaw.the-variants.{None}
+use Rattle.descriptions.specs.declared.Written.{Written}
+use Rattle.descriptions.specs.declared.Written.the-variants.{Done, Flawed, NoRoom}
+use Rattle.records.specs.Record.{storedFrom, stored, widths, width, fitsSample, encodeSample, encodePoint, encodeExtended, ValidPoint}
 use Rattle.records.specs.Values.{pointsOf}
-use Rattle.records.specs.Write.{fitsEach, fitsRow}
+use Rattle.records.specs.Write.{fitsEach, fitsRow, openingBytes}
 use Rattle.records.proofs.Samples.{stored-in, stored-out, stored-none}
 
 -- ---- One number
@@ -221,3 +228,53 @@ module _ (d : Description) (e : length (stored d) ≡ 0) where
   writes-nothing (suc n) vs =
       ap (λ l. encodeEach encodeSample l (take (length (stored d)) vs) ++ flatMap (encodePoint d) (pointsOf n (length (stored d)) (drop (length (stored d)) vs))) (empty (stored d) e)
       ∙ writes-nothing n (drop (length (stored d)) vs)
+
+-- ---- What stands before the points
+
+pub opening-list : (wanted : Bool) (count : ℕ) → count < 16777216
+    → openingBytes wanted count ≡ 0x00 ∷ cond wanted 0x80 0x00 ∷ count / 65536 ∷ count / 256 % 256 ∷ count % 256 ∷ []
+unfolding openingBytes digits
+opening-list wanted count h = let z : count / 256 / 256 % 256 ≡ count / 65536 = omega arith in rw z
+
+-- five bytes, one behind the other
+pub laid-five : (s : List ℕ) (at a b c d e : ℕ)
+    → Laid s at (a ∷ b ∷ c ∷ d ∷ e ∷ []) (set (set (set (set (set s at a) (at + 1) b) (at + 2) c) (at + 3) d) (at + 4) e) (at + 5)
+unfolding puts
+laid-five s at a b c d e =
+    let z : at + 1 + 1 ≡ at + 2 = omega arith in
+    let y : at + 2 + 1 ≡ at + 3 = omega arith in
+    let x : at + 3 + 1 ≡ at + 4 = omega arith in
+    record { place = refl; bytes = rw (z, y, x) }
+
+-- a description without a flaw, for which there is room, is put
+pub put-there : (d : Description) (s : List ℕ) (at : ℕ) → flawOf 2 d ≡ None → Room s at (encodeDescription 2 d)
+    → putIf 2 d s at ≡ putting (Done (at + length (encodeDescription 2 d))) (puts s at (encodeDescription 2 d))
+unfolding putIf putFlaw putRoom
+put-there d s at e r = rw (e, le-leb (at + length (encodeDescription 2 d)) (length s) (r .enough))
+
+module _ (d : Description) (s t : List ℕ) (at : ℕ) (w : Written) (p : putting w t ≡ putIf 2 d s at) (e : flawOf 2 d ≡ None) (r : Room s at (encodeDescription 2 d)) where
+  done : putting w t ≡ putting (Done (at + length (encodeDescription 2 d))) (puts s at (encodeDescription 2 d))
+  done = p ∙ put-there d s at e r
+
+  answered : w ≡ Done (at + length (encodeDescription 2 d))
+  answered = ap (λ x. x .answer) done
+
+  pub put-laid : {n : ℕ} → w ≡ Done n → Laid s at (encodeDescription 2 d) t n
+  put-laid {n} q = let a = answered in let z : n ≡ at + length (encodeDescription 2 d) = cc in record { place = z; bytes = ap (λ x. x .bytes) done }
+
+  pub put-no-flaw : w ≡ Flawed → ⊥
+  put-no-flaw q = let a = answered in impossible (cc)
+
+  pub put-has-room : w ≡ NoRoom → ⊥
+  put-has-room q = let a = answered in impossible (cc)
+
+-- ---- Extended data that are wanted
+
+module _ {s : List ℕ} {at : ℕ} (e : List ℕ) (wanted : Bool) (yes : wanted ≡ true) where
+  pub wanted-room : Room s at (encodeExtended (cond wanted (some e) none)) → Room s at (digits 2 (length e) ++ e)
+  unfolding encodeExtended
+  wanted-room r = rw yes at r
+
+  pub wanted-laid : {t : List ℕ} {n : ℕ} → Laid s at (digits 2 (length e) ++ e) t n → Laid s at (encodeExtended (cond wanted (some e) none)) t n
+  unfolding encodeExtended
+  wanted-laid l = rw yes l

@@ -1,17 +1,19 @@
 -- Writing a full record: what keeps one from being written, stage by stage, and what becomes of the bytes that a writer is lent.
 use mathlib.Core.Bool.{Bool, true, false, not, cond, _&&_}
-use mathlib.Core.List.{List, [], _∷_}
+use mathlib.Core.List.{List, [], _∷_, _++_}
 use mathlib.Core.Option.{Option, none, some}
 use Prim.Native.Nat.{ℕ, zero, suc, _*_}
 use lib.Dec.{eqb, ltb, leb}
 use lib.IntN.{ℤ}
 use lib.ListN.{length, drop}
 use Rattle.formats.specs.Put.{puts}
+use Rattle.formats.specs.Number.{digits}
 use Rattle.channels.specs.declared.Description.{Description}
+use Rattle.descriptions.specs.Description.{encodeDescription}
 use Rattle.descriptions.specs.Write.{flawOf}
 use Rattle.descriptions.specs.declared.Flaw.{Flaw}
 use Rattle.descriptions.specs.declared.Flaw.the-variants as flaw
-use Rattle.records.specs.Record.{Record, stored, encode, fitsSample}
+use Rattle.records.specs.Record.{Record, identifierBytes, versionBytes, stored, encode, fitsSample}
 use Rattle.records.specs.Values.{pointsOf}
 use Rattle.records.specs.declared.Written.{Written}
 use Rattle.records.specs.declared.Written.the-variants as written
@@ -85,3 +87,11 @@ putWhere r out written.Room = writing written.Room out
 
 unfoldable pub writeOf : Description → (count : ℕ) (values : List ℤ) (wanted : Bool) (extended : List ℕ) (out : List ℕ) → Writing
 writeOf d count values wanted extended out = putWhere (recordOf d count values wanted extended) out (check d count values wanted extended)
+
+-- ---- The parts, as they are put one behind the other
+
+unfoldable pub openingBytes : (wanted : Bool) (count : ℕ) → List ℕ
+openingBytes wanted count = 0x00 ∷ cond wanted 0x80 0x00 ∷ digits 3 count
+
+unfoldable pub frontBytes : Description → (wanted : Bool) (count : ℕ) → List ℕ
+frontBytes d wanted count = identifierBytes ++ versionBytes ++ encodeDescription 2 d ++ openingBytes wanted count

@@ -7,7 +7,9 @@ use channels::Stored;
 use channels::Switch;
 use formats::Outcome;
 ghost use mathlib.Core.Path.{_≡_};
-ghost use mathlib.Core.Bool.{true};
+ghost use mathlib.Core.Bool.{true, cond};
+ghost use mathlib.Core.Option.{some, none};
+ghost use lib.Dec.{T};
 ghost use mathlib.Core.List.{flatMap};
 ghost use Prim.Native.Nat.{_+_, _*_, _/_, _%_, _≤_, _<_};
 ghost use lib.ListN.{length, drop};
@@ -18,12 +20,14 @@ ghost use Rattle.formats.specs.Part.{Part};
 ghost use Rattle.formats.specs.Number.{digits};
 ghost use Rattle.formats.specs.Writes.{encodeEach};
 ghost use Rattle.formats.specs.Laid.{Room, Laid};
-ghost use Rattle.records.specs.Record.{sample, point, extension, fullRecord, storedFrom, stored, widths, encodeSample, encodePoint, fitsSample};
+ghost use Rattle.descriptions.specs.Write.{flawOf};
+ghost use Rattle.descriptions.specs.declared.Flaw.the-variants.{None};
+ghost use Rattle.records.specs.Record.{sample, point, extension, fullRecord, storedFrom, stored, widths, encodeSample, encodePoint, encodeExtended, fitsSample};
 ghost use Rattle.records.specs.Values.{pointsOf};
 ghost use Rattle.records.specs.Front.{marks, opened, channelled, front};
 ghost use Rattle.records.specs.Layout.{noFront, fronted, nowhereLaid, laidExtension, laidPoints, layoutOf};
 ghost use Rattle.records.specs.Verdict.{faultOf, judged, judgedWhole, extendedPlace, extendedSize, restPlace, restSize, pointedAt, placesIn};
-ghost use Rattle.records.specs.Write.{fitsEach, fitsRow};
+ghost use Rattle.records.specs.Write.{fitsEach, fitsRow, openingBytes, frontBytes};
 ghost use Rattle.records.specs.Points.{sampled, taken, seat, placesAt, switched};
 
 const IDENTIFIER: [u8; 4] = [0x53, 0x44, 0x49, 0x00];
@@ -728,13 +732,7 @@ fn put_sample(out: &mut [u8], at: usize, channel: usize, value: i32) -> usize
 }
 
 // A sample point is put from the values that stand from a place on.
-fn put_point(
-    out: &mut [u8],
-    start: usize,
-    values: &[i32],
-    from: usize,
-    d: Description,
-) -> usize
+fn put_point(out: &mut [u8], start: usize, values: &[i32], from: usize, d: Description) -> usize
     requires { ⌜ (from + length (stored d) ≤ length (now values)) × (fitsEach (stored d) (drop from (now values)) ≡ true) × Room (now out) start (encodeEach encodeSample (stored d) (drop from (now values))) ⌝ }
     ensures { λ r. ⌜ Laid (now (out .entry)) start (encodeEach encodeSample (stored d) (drop from (now (values .entry)))) (now (out .exit)) r ⌝ }
 {
@@ -784,4 +782,45 @@ fn put_bytes(out: &mut [u8], start: usize, bytes: &[u8]) -> usize
         i += 1;
     }
     start + i
+}
+
+// The header's reserved byte, the opening byte and the count are put.
+fn put_opening(out: &mut [u8], at: usize, wanted: bool, count: usize) -> usize
+    requires { ⌜ (count < 16777216) × Room (now out) at (openingBytes wanted count) ⌝ }
+    ensures { λ r. ⌜ Laid (now (out .entry)) at (openingBytes wanted count) (now (out .exit)) r ⌝ }
+{
+    out[at] = 0;
+    out[at + 1] = if wanted { 128 } else { 0 };
+    out[at + 2] = (count / 65536) as u8;
+    out[at + 3] = (count / 256 % 256) as u8;
+    out[at + 4] = (count % 256) as u8;
+    at + 5
+}
+
+// All that stands before the points is put.
+fn put_front(out: &mut [u8], d: Description, wanted: bool, count: usize) -> usize
+    requires { ⌜ (flawOf 2 d ≡ None) × (count < 16777216) × Room (now out) 0 (frontBytes d wanted count) ⌝ }
+    ensures { λ r. ⌜ Laid (now (out .entry)) 0 (frontBytes d wanted count) (now (out .exit)) r ⌝ }
+{
+    let identifier = IDENTIFIER;
+    let version = VERSION;
+    let at = put_bytes(out, 0, &identifier);
+    let at = put_bytes(out, at, &version);
+    match descriptions::put(out, at, d, Format::Full) {
+        descriptions::Written::Done(next) => put_opening(out, next, wanted, count),
+        descriptions::Written::Flawed => at, // never: the description has no flaw
+        descriptions::Written::NoRoom => at, // never: there is room for the record
+    }
+}
+
+// Extended data that are wanted are put behind their length.
+fn put_extension(out: &mut [u8], at: usize, wanted: bool, extended: &[u8]) -> usize
+    requires { ⌜ (T wanted → length (now extended) < 65536) × Room (now out) at (encodeExtended (cond wanted (some (now extended)) none)) ⌝ }
+    ensures { λ r. ⌜ Laid (now (out .entry)) at (encodeExtended (cond wanted (some (now (extended .entry))) none)) (now (out .exit)) r ⌝ }
+{
+    if !wanted {
+        return at;
+    }
+    let next = put_pair(out, at, extended.len() as u16);
+    put_bytes(out, next, extended)
 }

@@ -99,8 +99,8 @@ loop-again c =
       omega arith,
       omega (arith, l .loop .inv .1, take-many (a .t3 .channels) (a .values .now) (l .loop .i) 0 (within t) (is-stored t)),
       l .loop .inv .2
-      ∙ take-fitting (a .t3 .channels) (a .values .now) (l .loop .i) (l .loop .j) (within t) (is-stored t) (there t)
-      ∙ ap (λ x. x && fitting (a .t3 .channels) (a .values .now) (l .loop .i + 1) (l .loop .j + 1)) f,
+          ∙ take-fitting (a .t3 .channels) (a .values .now) (l .loop .i) (l .loop .j) (within t) (is-stored t) (there t)
+          ∙ ap (λ x. x && fitting (a .t3 .channels) (a .values .now) (l .loop .i + 1) (l .loop .j + 1)) f,
     ))
     (λ w.
     let h : l .loop .i < length (a .t3 .channels) = omega (arith, sixteen (l .before)) in
@@ -109,7 +109,7 @@ loop-again c =
     (c .if1 .came)
 
 returns-2 : tie.Need-returns-2 Inv-loop μ-loop
-returns-2 c = 
+returns-2 c =
     let l = c .before in
     sym (l .loop .inv .2 ∙ fitting-none (l .before .args .t3 .channels) (l .before .args .values .now) (l .loop .i) (l .loop .j) (omega (arith, sixteen (l .before))))
 

@@ -44,7 +44,7 @@ loop-less : tie.Need-loop-less Inv-loop μ-loop
 loop-less c = omega arith
 
 loop-again : tie.Need-loop-again Inv-loop μ-loop
-loop-again c = 
+loop-again c =
     let l = c .before .before in
     let a = l .before .args in
     let z : a .start + l .loop .i + 1 ≡ a .start + (l .loop .i + 1) = omega arith in
@@ -57,7 +57,7 @@ same-length : tie.Need-same-length Inv-loop μ-loop
 same-length c = c .before .loop .inv .1 .kept
 
 returns : tie.Need-returns Inv-loop μ-loop
-returns c = 
+returns c =
     let l = c .before in
     let a = l .before .args in
     owed-none (rw (drop-of-length-le (a .bytes .now) {i = l .loop .i} (c .loop-test .left)) at (l .loop .inv .1))

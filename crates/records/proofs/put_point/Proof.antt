@@ -126,7 +126,7 @@ same-length : tie.Need-same-length Inv-loop μ-loop
 same-length c = c .before .loop .inv .3 .kept
 
 returns : tie.Need-returns Inv-loop μ-loop
-returns c = 
+returns c =
     let l = c .before in
     let a = l .before .before .args in
     owed-none (rw (left-none (a .t5 .channels) (a .values .now) (l .loop .i) (l .loop .j) (omega (arith, sixteen (l .before .before)))) at (l .loop .inv .3))

@@ -1,55 +1,96 @@
+-- `records::put_points` meets its contract. The invariant: what is left to lay of the row makes of these bytes what all of it makes of those at the start.
+use mathlib.Core.Path.{_≡_, refl, sym, ap, _∙_}
+use mathlib.Core.Bool.{true}
+use mathlib.Core.List.{_++_, flatMap}
+use Prim.Native.Nat.{_≤_, _-_, _+_, _*_}
+use native.Mathlib.Nat.{sub-zero}
+use native.Mathlib.Omega.{arith}
+use borrow.Author.Needs.{needs}
+use lib.ListN.{length, drop}
+use Rattle.formats.specs.Laid.{Owed, owed-all, owed-next, owed-none, owed-room, room-first, laid-none}
+use Rattle.formats.specs.Writes.{encodeEach}
+use Rattle.records.specs.Record.{stored, encodeSample, encodePoint}
+use Rattle.records.specs.Values.{pointsOf}
+use Rattle.records.specs.Write.{fitsEach}
+use Rattle.records.proofs.Laying.{rowFitting, rowLeft, row-fits, row-left, row-left-none, row-many, writes-nothing, both}
 use Rattle.records.proofs.put_points.Statement.{statement}
 use Rattle.records.proofs.put_points.Tie as tie
-use Rattle.records.proofs.put_points.Reads as reads
-use Rattle.records.proofs.put_points.Lts as lts
-use Rattle.records.proofs.put_point.Reads as put-point-reads
-use Rattle.records.proofs.stored_count.Reads as stored-count-reads
 
 abbrev Inv-loop : tie.InvT-loop
-Inv-loop out₀ start values n d size at₀ from₀ i₀ out at from i = ?
+Inv-loop out₀ start values n d size at₀ from₀ i₀ out at from i = (i ≤ n) × (size ≡ length (stored d)) × (from + (n - i) * length (stored d) ≡ length values) × (rowFitting d values n i from ≡ true) × Owed out₀ start (flatMap (encodePoint d) (pointsOf n (length (stored d)) values)) out at (rowLeft d values n i from)
 
 abbrev μ-loop : tie.MeasureT-loop
-μ-loop out₀ start values n d size at₀ from₀ i₀ out at from i = ?
+μ-loop out₀ start values n d size at₀ from₀ i₀ out at from i = n - i
 
--- src/lib.rt:761:9
 stored-count-requires : tie.Need-stored-count-requires Inv-loop μ-loop
-stored-count-requires c κs = ?
+stored-count-requires c κs = search needs
 
--- src/lib.rt:763:9
 returns : tie.Need-returns Inv-loop μ-loop
-returns c = ?
+returns c =
+    let s = c .before .before .before in
+    rw (writes-nothing (s .args .d) (sym (c .before .stored-count .ensures .0) ∙ c .if1 .taken) (s .args .n) (s .args .values .now)) (laid-none _ _)
 
--- src/lib.rt:768:5
 loop-holds : tie.Need-loop-holds Inv-loop μ-loop
-loop-holds c = ?
+unfolding rowFitting rowLeft
+loop-holds c =
+    let s = c .before .before .before in
+    (omega arith, c .before .stored-count .ensures .0, simp sub-zero (omega (arith, s .pre .0)), simp sub-zero (s .pre .1), simp sub-zero (owed-all _ _ _))
 
--- src/lib.rt:769:9
+-- the next point fits, and its bytes come next
+module _ (c : tie.In-loop Inv-loop μ-loop) where
+  abbrev start : tie.Start Inv-loop μ-loop
+  start = c .before .before .before .before .before
+
+  fits : (fitsEach (stored (start .args .d)) (drop (c .before .loop .from) (start .args .values .now)) ≡ true)
+      × (rowFitting (start .args .d) (start .args .values .now) (start .args .n) (c .before .loop .i + 1) (c .before .loop .from + length (stored (start .args .d))) ≡ true)
+  fits = both _ _ (sym (row-fits (start .args .d) (start .args .values .now) (start .args .n) (c .before .loop .i) (c .before .loop .from) (c .loop-test .taken)) ∙ c .before .loop .inv .3)
+
+  owed : Owed
+      (start .args .out .now)
+      (start .args .start)
+      (flatMap (encodePoint (start .args .d)) (pointsOf (start .args .n) (length (stored (start .args .d))) (start .args .values .now)))
+      (c .before .loop .out)
+      (c .before .loop .at)
+      (encodeEach encodeSample (stored (start .args .d)) (drop (c .before .loop .from) (start .args .values .now))
+      ++ rowLeft (start .args .d) (start .args .values .now) (start .args .n) (c .before .loop .i + 1) (c .before .loop .from + length (stored (start .args .d))))
+  owed = rw (row-left (start .args .d) (start .args .values .now) (start .args .n) (c .before .loop .i) (c .before .loop .from) (c .loop-test .taken)) at (c .before .loop .inv .4)
+
 put-point-requires : tie.Need-put-point-requires Inv-loop μ-loop
-put-point-requires c κs = ?
+put-point-requires c κs =
+    let l = c .before in
+    let a = l .before .before .before .before .before .args in
+    (omega (arith, l .before .loop .inv .2, row-many (a .d) (a .values .now) (a .n) (l .before .loop .i) (l .loop-test .taken)), fits l .0, room-first _ _ (owed-room (owed l) (l .before .before .before .before .before .pre .2)))
 
--- src/lib.rt:770:9
 add-from : tie.Need-add-from Inv-loop μ-loop
-add-from c = ?
+add-from c =
+    let k = c .before .before .before .before in
+    let l = k .before in
+    let a = l .before .before .before .before .args in
+    omega (arith, l .loop .inv .1, l .loop .inv .2, row-many (a .d) (a .values .now) (a .n) (l .loop .i) (k .loop-test .taken))
 
--- src/lib.rt:771:9
 add-i : tie.Need-add-i Inv-loop μ-loop
-add-i c = ?
+add-i c = omega arith
 
--- src/lib.rt:768:5
 loop-less : tie.Need-loop-less Inv-loop μ-loop
-loop-less c = ?
+loop-less c = omega arith
 
--- src/lib.rt:768:5
 loop-again : tie.Need-loop-again Inv-loop μ-loop
-loop-again c = ?
+loop-again c =
+    let p = c .before .before in
+    let k = p .before .before in
+    let l = k .before in
+    let a = l .before .before .before .before .args in
+    rw (l .loop .inv .1)
+    (omega arith, refl, omega (arith, l .loop .inv .2, row-many (a .d) (a .values .now) (a .n) (l .loop .i) (k .loop-test .taken)), fits k .1, owed-next (owed k) (p .put-point .ensures))
 
--- src/lib.rt:757:1
 same-length : tie.Need-same-length Inv-loop μ-loop
-same-length c = ?
+same-length c = c .before .loop .inv .4 .kept
 
--- src/lib.rt:757:1
 returns-2 : tie.Need-returns-2 Inv-loop μ-loop
-returns-2 c = ?
+returns-2 c =
+    let l = c .before in
+    let a = l .before .before .before .before .args in
+    owed-none (rw (row-left-none (a .d) (a .values .now) (a .n) (l .loop .i) (l .loop .from) (c .loop-test .left)) at (l .loop .inv .4))
 
 pub put-points-spec : {M : Type 1} → statement M
 put-points-spec =

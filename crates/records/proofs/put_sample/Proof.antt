@@ -81,7 +81,7 @@ returns : tie.Need-returns
 returns c = rw (byte c) (laid-byte _ _ (c .low .ensures))
 
 returns-2 : tie.Need-returns-2
-returns-2 c = 
+returns-2 c =
     let m = c .before .before in
     let s = m .before .before .before in
     absurd (never-outside _ _ (s .pre .0) (stored-switch _ _ (m .before .if1 .taken) ∙ rw (back s) at (sym (m .byte-of .ensures)) ∙ c .enum-told .given .1))
@@ -93,7 +93,7 @@ returns-3 : tie.Need-returns-3
 returns-3 c = let p = c .before .before in rw (bytes (p .before .before .before)) (p .put-pair .ensures)
 
 returns-4 : tie.Need-returns-4
-returns-4 c = 
+returns-4 c =
     let m = c .before .before in
     let s = m .before .before .before .before in
     absurd (never-outside _ _ (s .pre .0) (stored-wide _ _ (m .before .before .if1 .left) ∙ sym (number m) ∙ c .enum-told2 .given .1))

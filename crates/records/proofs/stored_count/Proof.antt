@@ -43,7 +43,7 @@ loop-less : tie.Need-loop-less Inv-loop μ-loop
 loop-less c = omega arith
 
 loop-again : tie.Need-loop-again Inv-loop μ-loop
-loop-again c = 
+loop-again c =
     let b = c .before in
     let l = b .before .before .before in
     let d = l .before .args .t1 .channels in
@@ -54,7 +54,7 @@ loop-again c =
     (c .if1 .came)
 
 returns : tie.Need-returns Inv-loop μ-loop
-returns c = 
+returns c =
     let l = c .before in
     (omega (arith, l .loop .inv .2, many-none (l .before .args .t1 .channels) [] (l .loop .i) (omega (arith, sixteen (l .before)))), omega arith)
 

@@ -30,13 +30,13 @@ unfolding rowFitting
 loop-holds c = (omega arith, c .before .stored-count .ensures .0, simp sub-zero (omega arith), simp sub-zero)
 
 point-fits-requires : tie.Need-point-fits-requires Inv-loop μ-loop
-point-fits-requires c κs = 
+point-fits-requires c κs =
     let l = c .before in
     let a = l .before .before .before .args in
     omega (arith, l .loop .inv .2, row-many (a .d) (a .values .now) (a .n) (l .loop .i) (c .loop-test .taken))
 
 returns-2 : tie.Need-returns-2 Inv-loop μ-loop
-returns-2 c = 
+returns-2 c =
     let p = c .before in
     let l = p .before .before in
     let a = l .before .before .before .args in
@@ -44,7 +44,7 @@ returns-2 c =
     ∙ ap (λ x. x && rowFitting (a .d) (a .values .now) (a .n) (l .loop .i + 1) (l .loop .from + length (stored (a .d)))) (sym (p .point-fits .ensures) ∙ not-true _ (c .if2 .taken)))
 
 add-from : tie.Need-add-from Inv-loop μ-loop
-add-from c = 
+add-from c =
     let l = c .before .before .before in
     let a = l .before .before .before .args in
     omega (arith, l .loop .inv .1, l .loop .inv .2, row-many (a .d) (a .values .now) (a .n) (l .loop .i) (c .before .before .loop-test .taken))
@@ -56,7 +56,7 @@ loop-less : tie.Need-loop-less Inv-loop μ-loop
 loop-less c = omega arith
 
 loop-again : tie.Need-loop-again Inv-loop μ-loop
-loop-again c = 
+loop-again c =
     let p = c .before in
     let l = p .before .before in
     let a = l .before .before .before .args in
@@ -65,12 +65,12 @@ loop-again c =
       refl,
       omega (arith, l .loop .inv .2, row-many (a .d) (a .values .now) (a .n) (l .loop .i) (p .before .loop-test .taken)),
       l .loop .inv .3
-      ∙ row-fits (a .d) (a .values .now) (a .n) (l .loop .i) (l .loop .from) (p .before .loop-test .taken)
-      ∙ ap (λ x. x && rowFitting (a .d) (a .values .now) (a .n) (l .loop .i + 1) (l .loop .from + length (stored (a .d)))) (sym (p .point-fits .ensures) ∙ not-false _ (c .if2 .left)),
+          ∙ row-fits (a .d) (a .values .now) (a .n) (l .loop .i) (l .loop .from) (p .before .loop-test .taken)
+          ∙ ap (λ x. x && rowFitting (a .d) (a .values .now) (a .n) (l .loop .i + 1) (l .loop .from + length (stored (a .d)))) (sym (p .point-fits .ensures) ∙ not-false _ (c .if2 .left)),
     )
 
 returns-3 : tie.Need-returns-3 Inv-loop μ-loop
-returns-3 c = 
+returns-3 c =
     let l = c .before in
     let a = l .before .before .before .args in
     sym (l .loop .inv .3 ∙ row-fits-none (a .d) (a .values .now) (a .n) (l .loop .i) (l .loop .from) (c .loop-test .left))

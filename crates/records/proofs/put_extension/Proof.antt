@@ -1,0 +1,57 @@
+-- `records::put_extension` meets its contract: a length of two bytes, and the bytes behind it.
+use mathlib.Core.Path.{_≡_, refl, sym, ap, _∙_}
+use mathlib.Core.Bool.{Bool, true, false, cond}
+use mathlib.Core.List.{List, _++_}
+use mathlib.Core.Option.{some, none}
+use Prim.Native.Nat.{_<_}
+use native.Mathlib.Omega.{arith}
+use lib.ListN.{length}
+use borrow.Author.Tests.{not-true, not-false}
+use Rattle.formats.specs.Laid.{Room, laid-none, laid-more, room-first, room-rest}
+use Rattle.formats.specs.Number.{digits}
+use Rattle.records.specs.Record.{encodeExtended}
+use Rattle.records.proofs.Laying.{wanted-room, wanted-laid}
+use borrow.Author.Needs.{needs}
+use Rattle.records.proofs.put_extension.Statement.{statement}
+use Rattle.records.proofs.put_extension.Tie as tie
+
+-- where they are wanted
+module _ (c : tie.Else1) where
+  abbrev start : tie.Start
+  start = c .before .before .before
+
+  wanted : start .args .wanted ≡ true
+  wanted = not-false (start .args .wanted) (c .if1 .left)
+
+  small : length (start .args .extended .now) < 65536
+  small = start .pre .0 (rw wanted tt)
+
+  room : Room (start .args .out .now) (start .args .at) (digits 2 (length (start .args .extended .now)) ++ start .args .extended .now)
+  room = wanted-room (start .args .extended .now) (start .args .wanted) wanted (start .pre .1)
+
+returns : tie.Need-returns
+unfolding encodeExtended
+returns c = let s = c .before .before .before in rw (not-true (s .args .wanted) (c .if1 .taken)) (laid-none _ _)
+
+cast-put-pair : tie.Need-cast-put-pair
+cast-put-pair c = record { fits = omega (arith, small (c .before)) }
+
+put-pair-requires : tie.Need-put-pair-requires
+put-pair-requires c κs = room-first _ _ (room (c .before))
+
+put-bytes-requires : tie.Need-put-bytes-requires
+put-bytes-requires c κs = let p = c .before .before .before in room-rest (p .put-pair .ensures) (room (p .before .before))
+
+same-length : tie.Need-same-length
+same-length c = search needs
+
+returns-2 : tie.Need-returns-2
+returns-2 c =
+    let q = c .before .before in
+    let p = q .before .before .before .before in
+    wanted-laid (start (p .before .before) .args .extended .now) (start (p .before .before) .args .wanted) (wanted (p .before .before)) (laid-more (p .put-pair .ensures) (q .put-bytes .ensures))
+
+pub put-extension-spec : {M : Type 1} → statement M
+put-extension-spec =
+    tie.close
+    (tie.spec returns cast-put-pair put-pair-requires put-bytes-requires same-length returns-2)
