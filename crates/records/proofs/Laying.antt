@@ -278,3 +278,11 @@ module _ {s : List ℕ} {at : ℕ} (e : List ℕ) (wanted : Bool) (yes : wanted 
   pub wanted-laid : {t : List ℕ} {n : ℕ} → Laid s at (digits 2 (length e) ++ e) t n → Laid s at (encodeExtended (cond wanted (some e) none)) t n
   unfolding encodeExtended
   wanted-laid l = rw yes l
+
+pub extended-length : (e : List ℕ) (wanted : Bool) → wanted ≡ true → length (encodeExtended (cond wanted (some e) none)) ≡ length e + 2
+unfolding encodeExtended
+extended-length e wanted q = rw q (length-append (digits 2 (length e)) e ∙ omega (arith, length-digits 2 (length e)))
+
+pub no-extended-length : (e : List ℕ) (wanted : Bool) → wanted ≡ false → length (encodeExtended (cond wanted (some e) none)) ≡ 0
+unfolding encodeExtended
+no-extended-length e wanted q = rw q

@@ -13,6 +13,7 @@ pub mod Laid
 pub mod Nth
 pub mod Values
 pub mod Write
+pub mod WriteLaws
 pub mod Demands
 pub mod Rules
 pub mod Blame

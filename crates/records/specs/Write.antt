@@ -1,9 +1,10 @@
 -- Writing a full record: what keeps one from being written, stage by stage, and what becomes of the bytes that a writer is lent.
+use mathlib.Core.Path.{_≡_}
 use mathlib.Core.Bool.{Bool, true, false, not, cond, _&&_}
 use mathlib.Core.List.{List, [], _∷_, _++_}
 use mathlib.Core.Option.{Option, none, some}
-use Prim.Native.Nat.{ℕ, zero, suc, _*_}
-use lib.Dec.{eqb, ltb, leb}
+use Prim.Native.Nat.{ℕ, zero, suc, _*_, _<_}
+use lib.Dec.{T, eqb, ltb, leb}
 use lib.IntN.{ℤ}
 use lib.ListN.{length, drop}
 use Rattle.formats.specs.Put.{puts}
@@ -95,3 +96,11 @@ openingBytes wanted count = 0x00 ∷ cond wanted 0x80 0x00 ∷ digits 3 count
 
 unfoldable pub frontBytes : Description → (wanted : Bool) (count : ℕ) → List ℕ
 frontBytes d wanted count = identifierBytes ++ versionBytes ++ encodeDescription 2 d ++ openingBytes wanted count
+
+-- what holds of a record that passed every stage but the room
+pub record Passed (d : Description) (count : ℕ) (values : List ℤ) (wanted : Bool) (extended : List ℕ) : Type 0 where
+  pub flawless : flawOf 2 d ≡ flaw.None
+  pub counted : count < 16777216
+  pub amount : length values ≡ count * length (stored d)
+  pub fitting : fitsRow d count values ≡ true
+  pub small : T wanted → length extended < 65536

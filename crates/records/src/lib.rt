@@ -5,6 +5,7 @@ use channels::Format;
 use channels::Place;
 use channels::Stored;
 use channels::Switch;
+use descriptions::Flaw;
 use formats::Outcome;
 ghost use mathlib.Core.Path.{_≡_};
 ghost use mathlib.Core.Bool.{true, cond};
@@ -20,14 +21,15 @@ ghost use Rattle.formats.specs.Part.{Part};
 ghost use Rattle.formats.specs.Number.{digits};
 ghost use Rattle.formats.specs.Writes.{encodeEach};
 ghost use Rattle.formats.specs.Laid.{Room, Laid};
+ghost use Rattle.descriptions.specs.Description.{encodeDescription};
 ghost use Rattle.descriptions.specs.Write.{flawOf};
 ghost use Rattle.descriptions.specs.declared.Flaw.the-variants.{None};
-ghost use Rattle.records.specs.Record.{sample, point, extension, fullRecord, storedFrom, stored, widths, encodeSample, encodePoint, encodeExtended, fitsSample};
+ghost use Rattle.records.specs.Record.{sample, point, extension, fullRecord, storedFrom, stored, widths, width, encodeSample, encodePoint, encodeExtended, encode, fitsSample};
 ghost use Rattle.records.specs.Values.{pointsOf};
 ghost use Rattle.records.specs.Front.{marks, opened, channelled, front};
 ghost use Rattle.records.specs.Layout.{noFront, fronted, nowhereLaid, laidExtension, laidPoints, layoutOf};
 ghost use Rattle.records.specs.Verdict.{faultOf, judged, judgedWhole, extendedPlace, extendedSize, restPlace, restSize, pointedAt, placesIn};
-ghost use Rattle.records.specs.Write.{fitsEach, fitsRow, openingBytes, frontBytes};
+ghost use Rattle.records.specs.Write.{fitsEach, fitsRow, openingBytes, frontBytes, recordOf, checkValues, check, Passed, writing, writeOf};
 ghost use Rattle.records.specs.Points.{sampled, taken, seat, placesAt, switched};
 
 const IDENTIFIER: [u8; 4] = [0x53, 0x44, 0x49, 0x00];
@@ -823,4 +825,107 @@ fn put_extension(out: &mut [u8], at: usize, wanted: bool, extended: &[u8]) -> us
     }
     let next = put_pair(out, at, extended.len() as u16);
     put_bytes(out, next, extended)
+}
+
+// How many bytes a record has that passed every stage but the last.
+fn record_size(d: Description, count: usize, wanted: bool, extended: &[u8]) -> usize
+    requires { ⌜ (count < 16777216) × (T wanted → length (now extended) < 65536) ⌝ }
+    ensures { λ r. ⌜ r ≡ length (encodeDescription 2 d) + count * width d + length (encodeExtended (cond wanted (some (now (extended .entry))) none)) + 13 ⌝ }
+{
+    let points = count * width_from(d, 0);
+    let front = descriptions::size(d, Format::Full) + points;
+    if wanted {
+        return front + (extended.len() + 2) + 13;
+    }
+    front + 13
+}
+
+// The stages behind the description's: the count, the amount of values, the values, the extended data.
+fn check_values(
+    d: Description,
+    count: usize,
+    values: &[i32],
+    wanted: bool,
+    extended: &[u8],
+) -> Written
+    ensures { λ r. ⌜ r ≡ checkValues d count (now (values .entry)) wanted (now (extended .entry)) ⌝ }
+{
+    if 16777215 < count {
+        return Written::CountRange;
+    }
+    if values.len() != count * stored_count(d) {
+        return Written::Amount;
+    }
+    if !values_fit(values, count, d) {
+        return Written::ValueRange;
+    }
+    if wanted {
+        if 65535 < extended.len() {
+            return Written::ExtendedSize;
+        }
+    }
+    Written::Record {
+        length: record_size(d, count, wanted, extended),
+    }
+}
+
+// All stages but the room, the description's own first.
+fn checked(d: Description, count: usize, values: &[i32], wanted: bool, extended: &[u8]) -> Written
+    ensures { λ r. ⌜ r ≡ check d count (now (values .entry)) wanted (now (extended .entry)) ⌝ }
+{
+    match descriptions::flaw_of(d, Format::Full) {
+        Flaw::None => check_values(d, count, values, wanted, extended),
+        Flaw::XOrY => Written::XOrY,
+        Flaw::Untidy => Written::Untidy,
+        Flaw::OutOfRange => Written::AttributeRange,
+    }
+}
+
+// A record that passed every stage is put at the start of the output.
+fn put_record(
+    out: &mut [u8],
+    d: Description,
+    count: usize,
+    values: &[i32],
+    wanted: bool,
+    extended: &[u8],
+) -> usize
+    requires { ⌜ Passed d count (now values) wanted (now extended) × Room (now out) 0 (encode (recordOf d count (now values) wanted (now extended))) ⌝ }
+    ensures { λ r. ⌜ Laid (now (out .entry)) 0 (encode (recordOf d count (now (values .entry)) wanted (now (extended .entry)))) (now (out .exit)) r ⌝ }
+{
+    let at = put_front(out, d, wanted, count);
+    let at = put_points(out, at, values, count, d);
+    put_extension(out, at, wanted, extended)
+}
+
+// A record is written from a description, a count, values in stored order and, where they are wanted, extended data.
+// On a refusal the output is as it was; on success only its first bytes change.
+pub fn write(
+    description: Description,
+    count: usize,
+    values: &[i32],
+    wanted: bool,
+    extended: &[u8],
+    out: &mut [u8],
+) -> Written
+    ensures { λ r. ⌜ writing r (now (out .exit)) ≡ writeOf description count (now (values .entry)) wanted (now (extended .entry)) (now (out .entry)) ⌝ }
+{
+    let answer = checked(description, count, values, wanted, extended);
+    match answer {
+        Written::Record { length } => {
+            if out.len() < length {
+                return Written::Room;
+            }
+            put_record(out, description, count, values, wanted, extended);
+            answer
+        }
+        Written::XOrY => answer,
+        Written::Untidy => answer,
+        Written::AttributeRange => answer,
+        Written::CountRange => answer,
+        Written::Amount => answer,
+        Written::ValueRange => answer,
+        Written::ExtendedSize => answer,
+        Written::Room => answer,
+    }
 }
