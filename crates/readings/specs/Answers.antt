@@ -1,8 +1,9 @@
 -- No second answer meets a promise: answers that say the same are the same.
 use mathlib.Core.Path.{_≡_, refl, sym, ap, _∙_}
 use Prim.Native.Nat.{ℕ}
-use native.Mathlib.Omega.{arith}
 use lib.IntN.{ℤ}
+use Rattle.formats.specs.Bytes.{impossible}
+use Rattle.formats.specs.OneAnswer.{OneAnswer}
 use Rattle.channels.specs.declared.Attribute.{Attribute}
 use Rattle.channels.specs.declared.Place.{Place}
 use Rattle.readings.specs.declared.Reading.{Reading}
@@ -10,9 +11,6 @@ use Rattle.readings.specs.declared.Reading.the-variants.{Thousandths, Ou
 use Rattle.readings.specs.declared.PlaceReading.{PlaceReading}
 use Rattle.readings.specs.declared.PlaceReading.the-variants.{Absent, Present}
 use Rattle.readings.specs.Thousandths.{told, toldPlace, reading, placeReading}
-
-impossible : {A : Type 0} → _≡_ {A = ℕ} 0 1 → A
-impossible e = absurd (omega arith)
 
 same : (r q : Reading) → told r ≡ told q → r ≡ q
 same (Thousandths z) (Thousandths y) e = cc
@@ -28,8 +26,8 @@ same-place (Present (Thousandths z)) Absent e = impossible (cc)
 same-place (Present OutOfRange) Absent e = impossible (cc)
 same-place (Present r) (Present q) e = ap Present (same r q e)
 
-pub to-thousandths-one : (raw : ℤ) (e f : ℕ) (r q : Reading) → told r ≡ reading raw e f → told q ≡ reading raw e f → r ≡ q
+pub to-thousandths-one : (raw : ℤ) (e f : ℕ) → OneAnswer (λ r. told r ≡ reading raw e f)
 to-thousandths-one raw e f r q h k = same r q (h ∙ sym k)
 
-pub place-thousandths-one : (place : Place) (scaling : Attribute) (r q : PlaceReading) → toldPlace r ≡ placeReading place scaling → toldPlace q ≡ placeReading place scaling → r ≡ q
+pub place-thousandths-one : (place : Place) (scaling : Attribute) → OneAnswer (λ r. toldPlace r ≡ placeReading place scaling)
 place-thousandths-one place scaling r q h k = same-place r q (h ∙ sym k)

@@ -1,4 +1,4 @@
--- P12 and the other readings that document 01 gives, and what a place of a point reads as.
+-- The readings that document 01 gives beside P12, which the crate `examples` has, and what a place of a point reads as.
 use mathlib.Core.Path.{_≡_, refl}
 use mathlib.Core.Bool.{true, false}
 use mathlib.Core.List.{List, [], _∷_, map}
@@ -25,10 +25,7 @@ scaling e f = record { given = true; number = pos (2048 * e + f) }
 
 abbrev table : List Example
 table =
-    (reading (pos 1) 26 1952 is value (pos 1))  -- P12: the scale is 2000
-    ∷ (reading (negsuc 0) 26 1952 is value (negsuc 0))
-    ∷ (reading (pos 3) 26 1952 is value (pos 2))
-    ∷ (reading (pos 3199) 22 1151 is value (pos 32000))  -- the scale is 99.96875
+    (reading (pos 3199) 22 1151 is value (pos 32000))  -- the scale is 99.96875
     ∷ (reading (pos 512) 26 0 is value (pos 500))
     ∷ (reading (pos 65535) 0 0 is value (pos 4294901760000))
     ∷ (reading (negsuc 32767) 31 2047 is value (negsuc 499))  -- the scale is 65520

@@ -1,5 +1,5 @@
 -- `Thousandths`: the meaning of a reading. `Nearest`: what "nearest" is, and that nothing else is. `Laws`: what follows for readings, their ends, and scaling values.
--- `Answers`: no second answer meets a promise. `Examples`: P12 and the scope's other readings.
+-- `Answers`: no second answer meets a promise. `Examples`: the scope's readings, but for P12.
 pub mod Thousandths
 pub mod Nearest
 pub mod Laws

@@ -1,5 +1,5 @@
 -- What the reader of the reserved byte, the opening byte and the count answers, by the tests of the code.
-use mathlib.Core.Path.{_≡_, refl, sym, ap, _∙_}
+use mathlib.Core.Path.{_≡_, refl, sym, ap, ap₂, _∙_}
 use mathlib.Core.Bool.{Bool, true, false, _||_}
 use mathlib.Core.List.{List, [], _∷_}
 use Prim.Native.Nat.{ℕ, _+_, _-_, _*_, _/_, _%_, _≤_, _<_}
@@ -19,7 +19,7 @@ use Rattle.records.specs.declared.Front.{Front}
 -- the low seven bits of a byte
 module _ (b : ℕ) (h : b < 256) where
   pub opening-bad : (b % 128 ≡ 0 → ⊥) → opening .holds b ≡ false
-  opening-bad e = rw (ne-eqb b 0x00 (λ q. e (omega arith)), ne-eqb b 0x80 (λ q. e (omega arith)))
+  opening-bad e = ap₂ (λ s t. s || t) (ne-eqb b 0x00 (λ q. e (omega arith))) (ne-eqb b 0x80 (λ q. e (omega arith)))
 
   pub opening-good : b % 128 ≡ 0 → opening .holds b ≡ true
   opening-good e = go (b / 128) refl

@@ -69,13 +69,18 @@ sample-none s at channel h = go (eqb channel S) refl
 -- ---- The channels from i on
 
 module _ (ds : List Descriptor) (i : ℕ) (h : i < length ds) where
-  pub stored-in : isStored (getD ds i absent) ≡ true → storedFrom i (drop i ds) ≡ i ∷ storedFrom (i + 1) (drop (i + 1) ds)
+  -- whether channel i is one of them
+  stored-by : (t : Bool) → isStored (getD ds i absent) ≡ t
+      → storedFrom i (drop i ds) ≡ cond t (i ∷ storedFrom (i + 1) (drop (i + 1) ds)) (storedFrom (i + 1) (drop (i + 1) ds))
   unfolding storedFrom
-  stored-in e = rw (add-one, drop-cons ds i absent h, e)
+  stored-by t e =
+      rw (add-one, drop-cons ds i absent h) (ap (λ b. cond b (i ∷ storedFrom (suc i) (drop (suc i) ds)) (storedFrom (suc i) (drop (suc i) ds))) e)
+
+  pub stored-in : isStored (getD ds i absent) ≡ true → storedFrom i (drop i ds) ≡ i ∷ storedFrom (i + 1) (drop (i + 1) ds)
+  stored-in e = stored-by true e
 
   pub stored-out : isStored (getD ds i absent) ≡ false → storedFrom i (drop i ds) ≡ storedFrom (i + 1) (drop (i + 1) ds)
-  unfolding storedFrom
-  stored-out e = rw (add-one, drop-cons ds i absent h, e)
+  stored-out e = stored-by false e
 
 pub stored-none : (ds : List Descriptor) (i : ℕ) → length ds ≤ i → storedFrom i (drop i ds) ≡ []
 unfolding storedFrom

@@ -1,7 +1,8 @@
 -- `Record`: the meaning of a full record. `Places`: a sample point as sixteen places. `Values`: points as a writer is lent them.
--- `Rules`: the rules that its bytes may break, each with its number. `Points`: what code tells of points.
--- `Demands`: what the meaning demands, proved. `Blame`: the rules are what reading refuses, and nothing else.
--- `Encoded` and `Nth` have laws for proofs.
+-- `Rules`: the rules that its bytes may break, each with its number. `Verdict`: what is answered of some bytes. `Write`: what writing does.
+-- `Demands`: what the meaning demands, proved. `Blame`: the rules are what reading refuses, and nothing else. `RoundTrips`: reading and writing, by their promises.
+-- `Numbers`: what code answers as document 01 numbers it. `Sizes`: how long the parts of a record can be. `Answers`: no public function has a second answer.
+-- `Front`, `Layout` and `Points` say what private functions answer; `Encoded`, `Laid`, `Nth` and `WriteLaws` have laws for proofs.
 pub mod Record
 pub mod Places
 pub mod Encoded
@@ -17,4 +18,7 @@ pub mod WriteLaws
 pub mod Demands
 pub mod Rules
 pub mod Blame
-pub mod Examples
+pub mod Numbers
+pub mod Sizes
+pub mod RoundTrips
+pub mod Answers

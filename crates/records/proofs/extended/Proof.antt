@@ -1,9 +1,10 @@
 -- `records::extended` meets its contract: the extended data are the last bytes of the layout, behind their length.
-use mathlib.Core.Path.{_≡_, refl}
-use Prim.Native.Nat.{_+_, _≤_}
+use mathlib.Core.Path.{_≡_}
+use mathlib.Core.List.{List, []}
+use Prim.Native.Nat.{ℕ, _+_, _-_, _≤_}
 use native.Mathlib.Nat.{sub-self}
 use native.Mathlib.Omega.{arith}
-use lib.ListN.{length}
+use lib.ListN.{length, take}
 use Rattle.records.specs.Verdict.{extendedPlace, extendedSize}
 use Rattle.records.proofs.Verdicts.{ends-within, extended-lies, extended-empty, short-read, bad-read}
 use borrow.Author.Needs.{needs}
@@ -28,10 +29,10 @@ add-start : tie.Need-add-start
 add-start c = let z = lie c in record { fits = omega arith }
 
 sub-result : tie.Need-sub-result
-sub-result c = lie c .0
+sub-result c = omega (arith, lie c .0)
 
 part-result-start : tie.Need-part-result-start
-part-result-start c = lie c .0
+part-result-start c = omega (arith, lie c .0)
 
 part-result-end : tie.Need-part-result-end
 part-result-end c = lie c .1
@@ -43,7 +44,7 @@ part-result-start-2 : tie.Need-part-result-start-2
 part-result-start-2 c = search needs
 
 part-result-end-2 : tie.Need-part-result-end-2
-part-result-end-2 c = let k = c .before .before .before in ends-within _ _ (k .before .before .laid .ensures) (k .outcome .given .1) .1
+part-result-end-2 c = let k = c .before .before .before in omega (arith, ends-within _ _ (k .before .before .laid .ensures) (k .outcome .given .1) .1)
 
 enum-told : tie.Need-enum-told
 enum-told c = search needs
@@ -76,11 +77,15 @@ returns c =
     let z = extended-lies _ _ (k .before .before .laid .ensures) (k .outcome .given .1) (s .before .if1 .taken) in
     rw (z .0, z .1) (search needs)
 
+-- from a place to itself there is nothing
+none-taken : (n : ℕ) (l : List ℕ) → take (n - n) l ≡ []
+none-taken n l = simp sub-self
+
 returns-2 : tie.Need-returns-2
 returns-2 c =
     let k = c .before .before .before .before in
     let z = extended-empty _ _ (k .before .before .laid .ensures) (k .outcome .given .1) (c .before .if1 .left) in
-    rw (z .0, z .1) (record { bytes = simp sub-self; block = refl; offset = refl })
+    rw (z .0, z .1) (search (needs, none-taken))
 
 returns-3 : tie.Need-returns-3
 unfolding extendedPlace extendedSize

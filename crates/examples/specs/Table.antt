@@ -1,0 +1,157 @@
+-- The proved examples of document 01: one table of questions and answers, and one claim.
+--
+-- Each answer is a function's own. `records::judge` promises `r ≡ judged (run fullRecord bytes)`, `judge_whole`, `judge_point` and `point` promise
+-- equations with `judgedWhole`, `pointedAt` and `placesIn`, `readings::to_thousandths` promises `told r ≡ reading raw e f`, and none can meet
+-- its promise by a second answer. The right sides of these equations are what is computed here.
+-- P10 and P11 ask of a template: they are two rows more, of a third kind of question.
+use mathlib.Core.Path.{_≡_, refl}
+use mathlib.Core.Bool.{Bool, true, false, not, cond}
+use mathlib.Core.List.{List, [], _∷_, _++_, map}
+use Prim.Native.Nat.{ℕ}
+use lib.IntN.{ℤ, pos, negsuc}
+use lib.ListN.{replicate, set, take, length}
+use Rattle.formats.specs.Reader as reader
+use Rattle.formats.specs.Reader.{Answer, next, run, bind, each, times, one, free, literal}
+use Rattle.formats.specs.Number.{number}
+use Rattle.channels.specs.Channel.{signedOf}
+use Rattle.channels.specs.Stored.{offset, valueOf}
+use Rattle.channels.specs.Switch.{stateOf}
+use Rattle.channels.specs.declared.Descriptor.{Descriptor}
+use Rattle.channels.specs.declared.Description.{Description}
+use Rattle.channels.specs.declared.Place.{Place}
+use Rattle.channels.specs.declared.Place.the-variants.{Absent, Constant, Number}
+use Rattle.descriptions.specs.Description.{noAttribute, absent, attribute, descriptor, includes, channelOf, description}
+use Rattle.descriptions.specs.Read.{nothing}
+use Rattle.records.specs.Record.{Record, storedFrom, stored, sample, point, extension, fullRecord}
+use Rattle.records.specs.Places.{placesOf, places}
+use Rattle.records.specs.Points.{nowhere}
+use Rattle.records.specs.Verdict.{numberOf, faultOf, present, judged, judgedWhole, pointedAt, placesIn}
+use Rattle.records.specs.Numbers.{Numbered, accepted, refused, refusedAt, numbered}
+use Rattle.records.specs.declared.Fault.{Fault}
+use Rattle.records.specs.declared.Fault.the-variants.{Identifier, XOrY, ReservedBit, OpeningBits}
+use Rattle.records.specs.declared.Verdict.{Verdict}
+use Rattle.records.specs.declared.Verdict.the-variants as verdict
+use Rattle.records.specs.declared.Judged.{Judged}
+use Rattle.records.specs.declared.Pointed.{Pointed}
+use Rattle.records.specs.declared.Pointed.the-variants as pointed
+use Rattle.readings.specs.Thousandths as readings
+use Rattle.readings.specs.Thousandths.{value, nearest, thousandths, defined, reading}
+
+-- ---- Questions and answers
+
+-- what is asked: of some bytes, what record they are; of a scaling value, E and F, what it makes of raw numbers
+pub data Question : Type 0 where
+  bytes : List ℕ → Question
+  scaled : (e f : ℕ) → List ℤ → Question
+
+-- what is said of some bytes
+pub record Said : Type 0 where
+  pub front : Judged  -- by judge
+  pub whole : Judged  -- by judge_whole
+  pub number : Numbered  -- that, as document 01 numbers it
+  pub pointed : Pointed  -- by judge_point, of the first point
+  pub places : List Place  -- by point, of the first point
+
+pub data Answered : Type 0 where
+  said : Said → Answered
+  read : List readings.Answer → Answered
+
+-- what is said, by what reading the bytes answers
+unfoldable pub saidOf : (size : ℕ) → Answer Record → Said
+saidOf size answer = record {
+  front = judged answer;
+  whole = judgedWhole size answer;
+  number = numbered (judged answer .verdict);
+  pointed = pointedAt 0 answer;
+  places = placesIn 0 answer;
+}
+
+unfoldable pub answered : Question → Answered
+answered (bytes b) = said (saidOf (length b) (run fullRecord b))
+answered (scaled e f raws) = read (map (λ raw. reading raw e f) raws)
+
+-- ---- Answers, in the words of document 01
+
+-- one verdict, by judge and by judge_whole
+abbrev says : Verdict → Description → Numbered → Pointed → List Place → Answered
+says v d number pointed places = said (record {
+  front = record { verdict = v; description = d };
+  whole = record { verdict = v; description = d };
+  number = number;
+  pointed = pointed;
+  places = places;
+})
+
+-- a record of some length, without extended data: with no points, and with one
+abbrev empty : (length : ℕ) → Description → Answered
+empty n d = says (verdict.Record n 0 false) d accepted pointed.NoPoint nowhere
+
+abbrev single : (length : ℕ) → Description → List Place → Answered
+single n d places = says (verdict.Record n 1 false) d accepted pointed.Point places
+
+-- refusal 1; and another by its number and its name, with a place
+abbrev short : Answered
+short = says verdict.Short nothing (refused 1) pointed.Short nowhere
+
+abbrev refusal : ℕ → Fault → (place : ℕ) → Answered
+refusal number fault place = says (verdict.Refused fault place) nothing (refusedAt number place) (pointed.Refused fault place) nowhere
+
+-- X and Y, and no other channel: what is said of them, and a point of them
+abbrev plain : (constant : Bool) → Descriptor
+plain constant = record {
+  included = true;
+  scaling = noAttribute;
+  minimum = noAttribute;
+  maximum = noAttribute;
+  mean = noAttribute;
+  deviation = noAttribute;
+  constant = constant;
+  detrended = false;
+}
+
+abbrev described : Descriptor → Descriptor → Description
+described x y = record { channels = x ∷ y ∷ replicate 14 absent }
+
+abbrev both : Description
+both = described (plain false) (plain false)
+
+abbrev constantX : Description
+constantX = described (plain true) (plain false)
+
+abbrev xy : Place → Place → List Place
+xy x y = x ∷ y ∷ replicate 14 Absent
+
+-- ---- The table
+
+-- the shortest record
+abbrev M : List ℕ
+M = 0x53 ∷ 0x44 ∷ 0x49 ∷ 0x00 ∷ 0x20 ∷ 0x31 ∷ 0x30 ∷ 0x00 ∷ 0xC0 ∷ 0x00 ∷ 0x00 ∷ 0x00 ∷ 0x00 ∷ 0x00 ∷ 0x00 ∷ 0x00 ∷ 0x00 ∷ []
+
+pub record Example : Type 0 where
+  pub question : Question
+  pub answer : Answered
+
+infix 20 _is_
+abbrev _is_ : Question → Answered → Example
+q is a = record { question = q; answer = a }
+
+abbrev pub table : List Example
+table =
+    (bytes M is empty 17 both)  -- P1
+    ∷ (bytes (take 16 M) is short)  -- P2
+    ∷ (bytes [] is short)  -- P3
+    ∷ (bytes (0x53 ∷ 0x45 ∷ []) is refusal 2 Identifier 1)  -- P4
+    ∷ (bytes (set M 8 0x40) is refusal 4 XOrY 8)  -- P5
+    ∷ (bytes (set M 10 0x01) is refusal 5 ReservedBit 10)  -- P6
+    ∷ (bytes (set M 13 0x01) is refusal 7 OpeningBits 13)  -- P7
+    ∷ (bytes (set M 16 0x01 ++ 0x7F ∷ 0xFF ∷ 0x80 ∷ 0x00 ∷ []) is single 21 both (xy (Number (negsuc 0)) (Number (pos 0))))  -- P8: X -1, Y 0
+    ∷ (bytes (set (set M 10 0x04) 16 0x01 ++ 0x80 ∷ 0x05 ∷ []) is single 19 constantX (xy Constant (Number (pos 5))))  -- P9: X constant, Y 5
+    ∷ (scaled 26 1952 (pos 1 ∷ negsuc 0 ∷ pos 3 ∷ []) is read (value (pos 1) ∷ value (negsuc 0) ∷ value (pos 2) ∷ []))  -- P12: 1, -1 and 3 are 1, -1 and 2
+    ∷ []
+
+pub examples : map (λ e. answered (e .question)) table ≡ map (λ e. e .answer) table
+unfolding answered saidOf run next bind reader.map each times one free literal number valueOf offset signedOf attribute descriptor includes channelOf description
+    storedFrom stored stateOf sample point extension fullRecord placesOf places
+    numberOf faultOf present judged judgedWhole numbered pointedAt placesIn
+    nearest thousandths defined reading
+examples = refl

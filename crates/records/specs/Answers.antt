@@ -1,0 +1,46 @@
+-- Each public function has one answer: whatever meets its promise is the same. A part of a slice is the same bytes in the same memory.
+use mathlib.Core.Path.{_≡_}
+use mathlib.Core.Bool.{Bool}
+use mathlib.Core.List.{List}
+use Prim.Native.Nat.{ℕ}
+use lib.IntN.{ℤ}
+use lib.ListN.{length}
+use denote.Ref.{RefT, now}
+use Rattle.formats.specs.Reader.{run, readAt}
+use Rattle.formats.specs.OneAnswer.{OneAnswer, named}
+use Rattle.formats.specs.Part.{Part, SamePart, one-part}
+use Rattle.channels.specs.declared.Description.{Description}
+use Rattle.records.specs.Record.{point, fullRecord}
+use Rattle.records.specs.Points.{placesAt}
+use Rattle.records.specs.Write.{Writing, writing, writeOf}
+use Rattle.records.specs.Verdict.{judged, judgedWhole, extendedPlace, extendedSize, restPlace, restSize, pointedAt, placesIn}
+
+module _ (s : List ℕ) where
+  pub one-judged : OneAnswer (λ r. r ≡ judged (run fullRecord s))
+  one-judged = named
+
+  pub one-judged-whole : OneAnswer (λ r. r ≡ judgedWhole (length s) (run fullRecord s))
+  one-judged-whole = named
+
+  pub one-judged-point : (index : ℕ) → OneAnswer (λ r. r ≡ pointedAt index (run fullRecord s))
+  one-judged-point index = named
+
+  pub one-point : (index : ℕ) → OneAnswer (λ r. r ≡ placesIn index (run fullRecord s))
+  one-point index = named
+
+  pub one-point-at : (start : ℕ) (d : Description) → OneAnswer (λ r. r ≡ placesAt d (readAt (point d) s start))
+  one-point-at start d = named
+
+module _ (s r q : RefT (List ℕ)) where
+  pub one-extended : Part s r (extendedPlace (run fullRecord (now s))) (extendedSize (run fullRecord (now s)))
+      → Part s q (extendedPlace (run fullRecord (now s))) (extendedSize (run fullRecord (now s))) → SamePart r q
+  one-extended = one-part s r q _ _
+
+  pub one-rest : Part s r (restPlace (run fullRecord (now s))) (restSize (length (now s)) (run fullRecord (now s)))
+      → Part s q (restPlace (run fullRecord (now s))) (restSize (length (now s)) (run fullRecord (now s))) → SamePart r q
+  one-rest = one-part s r q _ _
+
+-- a writer's answer and the later content of the output, together
+pub one-written : (d : Description) (count : ℕ) (values : List ℤ) (wanted : Bool) (extended out : List ℕ)
+    → OneAnswer (λ (w : Writing). writing (w .answer) (w .bytes) ≡ writeOf d count values wanted extended out)
+one-written d count values wanted extended out = named

@@ -1,0 +1,99 @@
+-- `templates::limited_from` meets its contract: the end, another tag, or the field 82 by where it ends.
+use mathlib.Core.Path.{_≡_, sym, _∙_}
+use Prim.Native.Nat.{_+_}
+use native.Mathlib.Omega.{arith}
+use borrow.Author.Needs.{needs}
+use lib.ListN.{drop}
+use Rattle.templates.specs.Reading.{withContent, limitedBy, limitedFrom}
+use Rattle.templates.proofs.Parts.{end-within, content-there, content-missing, limited-none, limited-other, limited-field}
+use Rattle.templates.proofs.limited_from.Statement.{statement}
+use Rattle.templates.proofs.limited_from.Tie as tie
+
+module _ (c : tie.Else2) where
+  abbrev start : tie.Start
+  start = c .before .before .before .before
+
+  -- the field 82
+  field : let a = start .args in
+      limitedFrom (a .described) (a .description) (drop (a .at) (a .s .now)) ≡ withContent (drop (a .at + 1) (a .s .now)) (limitedBy (a .described) (a .description))
+  field = limited-field _ _ (start .args .s .now) (start .args .at) (omega arith) (c .if2 .left)
+
+-- `templates::limited_from` meets its contract: the end, another tag, or the field 82 by where it ends.
+
+accepted-requires : tie.Need-accepted-requires
+accepted-requires c κs = search needs
+
+returns : tie.Need-returns
+returns c = c .accepted .ensures ∙ sym (limited-none _ _ _ _ (c .before .if1 .taken))
+
+shared-slice-read-if2 : tie.Need-shared-slice-read-if2
+shared-slice-read-if2 c = search needs
+
+refused-requires : tie.Need-refused-requires
+refused-requires c κs = search needs
+
+returns-2 : tie.Need-returns-2
+returns-2 c =
+    let a = c .before .before .before .before .before .args in
+    c .refused .ensures ∙ sym (limited-other _ _ (a .s .now) (a .at) (omega arith) (c .before .if2 .taken))
+
+add-end-of : tie.Need-add-end-of
+add-end-of c = search needs
+
+end-of-requires : tie.Need-end-of-requires
+end-of-requires c κs = search needs
+
+enum-known-end : tie.Need-enum-known-end
+enum-known-end c = search needs
+
+add-limited-by : tie.Need-add-limited-by
+add-limited-by c = search needs
+
+limited-by-requires : tie.Need-limited-by-requires
+limited-by-requires c κs =
+    let f = c .before .before .before in
+    let a = start (f .before) .args in
+    let w = end-within (a .s .now) (a .at + 1) (sym (f .end-of .ensures) ∙ c .before .end .given .1) in
+    (omega (arith, w .0), w .1)
+
+enum-told : tie.Need-enum-told
+enum-told c = search needs
+
+refused-requires-2 : tie.Need-refused-requires-2
+refused-requires-2 c κs = search needs
+
+returns-3 : tie.Need-returns-3
+returns-3 c =
+    let e = c .before .before in
+    let f = e .before .before in
+    let a = start (f .before) .args in
+    let z : a .at + 1 + 1 ≡ a .at + 2 = omega arith in
+    c .limited-by .ensures
+    ∙ sym (field (f .before) ∙ rw z at (content-there (a .s .now) (a .at + 1) (limitedBy (a .described) (a .description)) (sym (f .end-of .ensures) ∙ e .end .given .1)))
+
+returns-4 : tie.Need-returns-4
+returns-4 c =
+    let e = c .before in
+    let f = e .before .before in
+    let a = start (f .before) .args in
+    c .refused2 .ensures
+    ∙ sym (field (f .before) ∙ content-missing (a .s .now) (a .at + 1) (limitedBy (a .described) (a .description)) (sym (f .end-of .ensures) ∙ e .enum-told .given .1))
+
+pub limited-from-spec : {M : Type 1} → statement M
+limited-from-spec =
+    tie.close
+    (tie.spec
+    accepted-requires
+    returns
+    shared-slice-read-if2
+    refused-requires
+    returns-2
+    add-end-of
+    end-of-requires
+    enum-known-end
+    add-limited-by
+    limited-by-requires
+    enum-told
+    refused-requires-2
+    returns-3
+    returns-4)
