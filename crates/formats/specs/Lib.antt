@@ -10,6 +10,7 @@ pub mod Binary
 pub mod Ascend
 pub mod Reader
 pub mod OneAnswer
+pub mod Answers
 pub mod Part
 pub mod Law
 pub mod Settled

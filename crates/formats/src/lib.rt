@@ -1,4 +1,6 @@
 // What a byte format is. Its theory is in specs/; the code of a format tells how reading it ended.
+ghost use mathlib.Core.Path.{_≡_};
+ghost use Prim.Native.Nat.{_+_, _*_};
 
 pub enum Outcome {
     // All is well: the place after what was read.
@@ -7,4 +9,11 @@ pub enum Outcome {
     Short,
     // A byte was refused: the refusal's number, and the byte's place.
     Bad(u8, usize),
+}
+
+// The number of two bytes, the high one first.
+pub fn pair(high: u8, low: u8) -> u16
+    ensures { λ r. ⌜ r ≡ high * 256 + low ⌝ }
+{
+    (high as u16) * 256 + (low as u16)
 }

@@ -38,23 +38,6 @@ use Rattle.records.proofs.Samples.{stored-in, stored-out, stored-none}
 
 -- ---- One number
 
-module _ (channel : ℕ) (v : ℤ) where
-  pub switch-written : channel ≡ S → encodeSample channel v ≡ byteOf v ∷ []
-  unfolding encodeSample
-  switch-written e = rw e
-
-  pub wide-written : (channel ≡ S → ⊥) → encodeSample channel v ≡ digits 2 (storedOf 2 (signedOf channel) v)
-  unfolding encodeSample
-  wide-written e = rw (ne-eqb channel S e)
-
-  pub sample-width : length (encodeSample channel v) ≡ cond (eqb channel S) 1 2
-  unfolding encodeSample
-  sample-width = go (eqb channel S)
-    where
-      go : (t : Bool) → length (cond t (byteOf v ∷ []) (digits 2 (storedOf 2 (signedOf channel) v))) ≡ cond t 1 2
-      go true = refl
-      go false = length-digits 2 (storedOf 2 (signedOf channel) v)
-
 -- what is stored for it, if anything is
 unfoldable pub sampleStored : ℕ → ℤ → Stored
 sampleStored channel v = cond (eqb channel S) (byteIf v) (storedIf 2 (signedOf channel) v)
@@ -111,11 +94,6 @@ module _ (channel : ℕ) (v : ℤ) where
 
   pub never-outside : fitsSample channel v ≡ true → sampleStored channel v ≡ Outside → ⊥
   never-outside h g = let f = sample-outside channel v g in impossible (cc)
-
-pub both : (a b : Bool) → (a && b) ≡ true → (a ≡ true) × (b ≡ true)
-both true true e = (refl, refl)
-both true false e = impossible (cc)
-both false b e = impossible (cc)
 
 -- ---- A point: the channels from i on, and the values from j on
 

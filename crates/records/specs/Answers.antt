@@ -1,8 +1,8 @@
 -- Each public function has one answer: whatever meets its promise is the same. A part of a slice is the same bytes in the same memory.
-use mathlib.Core.Path.{_≡_}
+use mathlib.Core.Path.{_≡_, sym, _∙_}
 use mathlib.Core.Bool.{Bool}
 use mathlib.Core.List.{List}
-use Prim.Native.Nat.{ℕ}
+use Prim.Native.Nat.{ℕ, _<_}
 use lib.IntN.{ℤ}
 use lib.ListN.{length}
 use denote.Ref.{RefT, now}
@@ -10,7 +10,7 @@ use Rattle.formats.specs.Reader.{run, readAt}
 use Rattle.formats.specs.OneAnswer.{OneAnswer, named}
 use Rattle.formats.specs.Part.{Part, SamePart, one-part}
 use Rattle.channels.specs.declared.Description.{Description}
-use Rattle.records.specs.Record.{point, fullRecord}
+use Rattle.records.specs.Record.{point, width, fullRecord}
 use Rattle.records.specs.Points.{placesAt}
 use Rattle.records.specs.Write.{Writing, writing, writeOf}
 use Rattle.records.specs.Verdict.{judged, judgedWhole, extendedPlace, extendedSize, restPlace, restSize, pointedAt, placesIn}
@@ -30,6 +30,9 @@ module _ (s : List ℕ) where
 
   pub one-point-at : (start : ℕ) (d : Description) → OneAnswer (λ r. r ≡ placesAt d (readAt (point d) s start))
   one-point-at start d = named
+
+pub one-width : (d : Description) → OneAnswer (λ r. (r ≡ width d) × (r < 33))
+one-width d r q e g = e .0 ∙ sym (g .0)
 
 module _ (s r q : RefT (List ℕ)) where
   pub one-extended : Part s r (extendedPlace (run fullRecord (now s))) (extendedSize (run fullRecord (now s)))

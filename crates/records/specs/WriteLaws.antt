@@ -34,7 +34,7 @@ unfolding pointsOf
 points-many zero k vs = refl
 points-many (suc n) k vs = ap suc (points-many n k (drop k vs))
 
-both : (a b : Bool) → (a && b) ≡ true → (a ≡ true) × (b ≡ true)
+pub both : (a b : Bool) → (a && b) ≡ true → (a ≡ true) × (b ≡ true)
 both true true e = (refl, refl)
 both true false e = impossible (cc)
 both false b e = impossible (cc)

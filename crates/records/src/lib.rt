@@ -157,12 +157,6 @@ fn described_at(s: &[u8], at: usize) -> Fronted
     }
 }
 
-fn pair(high: u8, low: u8) -> u16
-    ensures { λ r. ⌜ r ≡ high * 256 + low ⌝ }
-{
-    (high as u16) * 256 + (low as u16)
-}
-
 // What a sample point holds of a channel, and where it ends.
 enum Sample {
     Number { value: i32, next: usize },
@@ -188,7 +182,7 @@ fn sample_at(s: &[u8], at: usize, channel: usize) -> Sample
         if s.len() - at < 2 {
             return Sample::Missing;
         }
-        let stored = pair(s[at], s[at + 1]);
+        let stored = formats::pair(s[at], s[at + 1]);
         let value = channels::value_of(Format::Full, channels::is_signed(channel), stored);
         Sample::Number {
             value: value,
@@ -269,6 +263,13 @@ fn width_from(d: Description, first: usize) -> usize
     w
 }
 
+// How many bytes each sample point of a record with this description has.
+pub fn point_width(description: Description) -> usize
+    ensures { λ r. ⌜ (r ≡ width description) × (r < 33) ⌝ }
+{
+    width_from(description, 0)
+}
+
 // Where a sample point ends whose switch stands `offset` bytes behind its start: of its bytes only the switch is looked at.
 fn point_end(s: &[u8], start: usize, width: usize, offset: usize) -> Outcome
     requires { ⌜ (start ≤ length (now s)) × (offset < width) × (width < 33) ⌝ }
@@ -340,7 +341,7 @@ fn extension_end(s: &[u8], start: usize, announced: bool) -> Outcome
     if s.len() - start < 2 {
         return Outcome::Short;
     }
-    let size = pair(s[start], s[start + 1]);
+    let size = formats::pair(s[start], s[start + 1]);
     jump(s, start + 2, size as usize)
 }
 

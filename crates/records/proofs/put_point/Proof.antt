@@ -15,7 +15,8 @@ use Rattle.formats.specs.Laid.{Owed, Laid, owed-all, owed-next, owed-none, owed
 use Rattle.formats.specs.Writes.{encodeEach}
 use Rattle.descriptions.specs.Description.{absent, isStored}
 use Rattle.records.specs.Record.{stored, encodeSample, fitsSample}
-use Rattle.records.proofs.Laying.{many, fitting, left, pass-many, pass-fitting, pass-left, take-many, take-fitting, take-left, left-none, both}
+use Rattle.records.proofs.Laying.{many, fitting, left, pass-many, pass-fitting, pass-left, take-many, take-fitting, take-left, left-none}
+use Rattle.records.specs.WriteLaws.{both}
 use Rattle.records.proofs.put_point.Statement.{statement}
 use Rattle.records.proofs.put_point.Tie as tie
 

@@ -12,7 +12,8 @@ use Rattle.formats.specs.Writes.{encodeEach}
 use Rattle.records.specs.Record.{stored, encodeSample, encodePoint}
 use Rattle.records.specs.Values.{pointsOf}
 use Rattle.records.specs.Write.{fitsEach}
-use Rattle.records.proofs.Laying.{rowFitting, rowLeft, row-fits, row-left, row-left-none, row-many, writes-nothing, both}
+use Rattle.records.proofs.Laying.{rowFitting, rowLeft, row-fits, row-left, row-left-none, row-many, writes-nothing}
+use Rattle.records.specs.WriteLaws.{both}
 use Rattle.records.proofs.put_points.Statement.{statement}
 use Rattle.records.proofs.put_points.Tie as tie
 
