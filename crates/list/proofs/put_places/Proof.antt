@@ -1,0 +1,50 @@
+-- `list::put_places` is safe and ends. The invariant: there is room for a byte.
+use Prim.Native.Nat.{_≤_, _<_, _-_}
+use borrow.Author.Needs.{needs}
+use Rattle.list.proofs.put_places.Statement.{statement}
+use Rattle.list.proofs.put_places.Tie as tie
+
+abbrev Inv-loop : tie.InvT-loop
+Inv-loop text₀ start places used₀ channel₀ text used channel = (used < 65536) × (channel ≤ 16)
+
+abbrev μ-loop : tie.MeasureT-loop
+μ-loop text₀ start places used₀ channel₀ text used channel = 16 - channel
+
+loop-holds : tie.Need-loop-holds Inv-loop μ-loop
+loop-holds c = search needs
+
+mul-place : tie.Need-mul-place Inv-loop μ-loop
+mul-place c = search needs
+
+array-copy-out-place : tie.Need-array-copy-out-place Inv-loop μ-loop
+array-copy-out-place c = search needs
+
+put-place-requires : tie.Need-put-place-requires Inv-loop μ-loop
+put-place-requires c κs = search needs
+
+add-channel : tie.Need-add-channel Inv-loop μ-loop
+add-channel c = search needs
+
+loop-less : tie.Need-loop-less Inv-loop μ-loop
+loop-less c = search needs
+
+loop-again : tie.Need-loop-again Inv-loop μ-loop
+loop-again c = search needs
+
+returns : tie.Need-returns Inv-loop μ-loop
+returns c = search needs
+
+pub put-places-spec : {M : Type 1} → statement M
+put-places-spec =
+    tie.close
+    (tie.spec
+    Inv-loop
+    μ-loop
+    loop-holds
+    mul-place
+    array-copy-out-place
+    put-place-requires
+    add-channel
+    loop-less
+    loop-again
+    returns)
