@@ -1,8 +1,9 @@
 #!/usr/bin/env python3
 """Makes the samples of the listing program, and its own case in crates/list: for each the bytes, and the text that has to be printed.
 
-Written from document 01 alone, and from none of the crates. The two widths that 01 leaves to document 002: a state of the switch in a
-point has one byte, and the extended data's length two. Run it as samples/make.py; it overwrites what it made before."""
+It follows document 01 and shares no code with the crates. Two widths that 01 leaves to document 002 are those of document 004: a state of
+the switch in a point has one byte (R-29), and the extended data's length has two (R-30). Run it as samples/make.py; it overwrites what it
+made before."""
 import os
 
 SAMPLES = os.path.dirname(os.path.abspath(__file__))

@@ -113,6 +113,7 @@ fn put_point(text: &mut [u8; 65536], used: usize, index: usize, places: [Place; 
 }
 
 // The points of the record that stands at a place. Points that have no bytes have no lines, however many they are.
+// Eight bytes of identifier and version stand before the description, and between it and the points five: two single bytes and the count.
 fn put_points(text: &mut [u8; 65536], start: usize, file: &[u8], place: usize, count: u32) -> usize
     requires { ⌜ (start < 65536) × (place ≤ 65536) ⌝ }
     ensures { λ r. ⌜ r < 65536 ⌝ }
