@@ -1,9 +1,9 @@
 -- The proved examples of document 01: one table of questions and answers, and one claim.
 --
 -- Each answer is a function's own. `records::judge` promises `r ≡ judged (run fullRecord bytes)`, `judge_whole`, `judge_point` and `point` promise
--- equations with `judgedWhole`, `pointedAt` and `placesIn`, `readings::to_thousandths` promises `told r ≡ reading raw e f`, and none can meet
--- its promise by a second answer. The right sides of these equations are what is computed here.
--- P10 and P11 ask of a template: they are two rows more, of a third kind of question.
+-- equations with `judgedWhole`, `pointedAt` and `placesIn`, `templates::read` promises `r ≡ templateOf bytes`, `readings::to_thousandths`
+-- promises `told r ≡ reading raw e f`, and none can meet its promise by a second answer. The right sides of these equations are what is
+-- computed here.
 use mathlib.Core.Path.{_≡_, refl}
 use mathlib.Core.Bool.{Bool, true, false, not, cond}
 use mathlib.Core.List.{List, [], _∷_, _++_, map}
@@ -12,6 +12,7 @@ use lib.IntN.{ℤ, pos, negsuc}
 use lib.ListN.{replicate, set, take, length}
 use Rattle.formats.specs.Reader as reader
 use Rattle.formats.specs.Reader.{Answer, next, run, bind, each, times, one, free, literal}
+use Rattle.formats.specs.Number as numbers
 use Rattle.formats.specs.Number.{number}
 use Rattle.channels.specs.Channel.{signedOf}
 use Rattle.channels.specs.Stored.{offset, valueOf}
@@ -34,14 +35,21 @@ use Rattle.records.specs.declared.Verdict.the-variants as verdict
 use Rattle.records.specs.declared.Judged.{Judged}
 use Rattle.records.specs.declared.Pointed.{Pointed}
 use Rattle.records.specs.declared.Pointed.the-variants as pointed
+use Rattle.templates.specs.declared.Fault.the-variants.{Maximum}
+use Rattle.templates.specs.declared.Verdict as verdicts
+use Rattle.templates.specs.declared.Verdict.the-variants.{Accepted, Refused}
+use Rattle.templates.specs.declared.Judged as judgement
+use Rattle.templates.specs.Reading as templates
+use Rattle.templates.specs.Reading.{saying, withContent, isShortest, atEnd, limitedBy, limitedFrom, filling, describedBy, contentOf, lengthAndContent, templateOf}
 use Rattle.readings.specs.Thousandths as readings
 use Rattle.readings.specs.Thousandths.{value, nearest, thousandths, defined, reading}
 
 -- ---- Questions and answers
 
--- what is asked: of some bytes, what record they are; of a scaling value, E and F, what it makes of raw numbers
+-- what is asked: of some bytes, what record or what template they are; of a scaling value, E and F, what it makes of raw numbers
 pub data Question : Type 0 where
   bytes : List ℕ → Question
+  template : List ℕ → Question
   scaled : (e f : ℕ) → List ℤ → Question
 
 -- what is said of some bytes
@@ -54,6 +62,7 @@ pub record Said : Type 0 where
 
 pub data Answered : Type 0 where
   said : Said → Answered
+  judgedAs : Numbered → judgement.Judged → Answered
   read : List readings.Answer → Answered
 
 -- what is said, by what reading the bytes answers
@@ -66,8 +75,14 @@ saidOf size answer = record {
   places = placesIn 0 answer;
 }
 
+-- a template's verdict by its number alone; where it has a place, that stands in the fault
+unfoldable pub templateNumber : verdicts.Verdict → Numbered
+templateNumber Accepted = accepted
+templateNumber (Refused fault) = refused (templates.numberOf fault)
+
 unfoldable pub answered : Question → Answered
 answered (bytes b) = said (saidOf (length b) (run fullRecord b))
+answered (template b) = judgedAs (templateNumber (templateOf b .verdict)) (templateOf b)
 answered (scaled e f raws) = read (map (λ raw. reading raw e f) raws)
 
 -- ---- Answers, in the words of document 01
@@ -146,6 +161,8 @@ table =
     ∷ (bytes (set M 13 0x01) is refusal 7 OpeningBits 13)  -- P7
     ∷ (bytes (set M 16 0x01 ++ 0x7F ∷ 0xFF ∷ 0x80 ∷ 0x00 ∷ []) is single 21 both (xy (Number (negsuc 0)) (Number (pos 0))))  -- P8: X -1, Y 0
     ∷ (bytes (set (set M 10 0x04) 16 0x01 ++ 0x80 ∷ 0x05 ∷ []) is single 19 constantX (xy Constant (Number (pos 5))))  -- P9: X constant, Y 5
+    ∷ (template (0xB1 ∷ 0x03 ∷ 0x82 ∷ 0x01 ∷ 0x64 ∷ []) is judgedAs accepted (templates.accepted (saying false nothing true 100)))  -- P10
+    ∷ (template (0xB1 ∷ 0x04 ∷ 0x82 ∷ 0x02 ∷ 0x00 ∷ 0x64 ∷ []) is judgedAs (refused 18) (templates.refused Maximum))  -- P11
     ∷ (scaled 26 1952 (pos 1 ∷ negsuc 0 ∷ pos 3 ∷ []) is read (value (pos 1) ∷ value (negsuc 0) ∷ value (pos 2) ∷ []))  -- P12: 1, -1 and 3 are 1, -1 and 2
     ∷ []
 
@@ -153,5 +170,6 @@ pub examples : map (λ e. answered (e .question)) table ≡ map (λ e. e .answer
 unfolding answered saidOf run next bind reader.map each times one free literal number valueOf offset signedOf attribute descriptor includes channelOf description
     storedFrom stored stateOf sample point extension fullRecord placesOf places
     numberOf faultOf present judged judgedWhole numbered pointedAt placesIn
+    numbers.value nothing templateNumber templates.numberOf withContent isShortest atEnd limitedBy limitedFrom filling describedBy contentOf lengthAndContent templateOf
     nearest thousandths defined reading
 examples = refl
