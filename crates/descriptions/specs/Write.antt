@@ -5,6 +5,7 @@ use Prim.Native.Nat.{ℕ, _+_}
 use lib.Dec.{leb}
 use lib.ListN.{length}
 use Rattle.formats.specs.Put.{puts}
+use Rattle.formats.specs.Lent.{Writing, writing}
 use Rattle.channels.specs.declared.Description.{Description}
 use Rattle.descriptions.specs.Description.{encodeDescription, includesXY, tidy, allFit}
 use Rattle.descriptions.specs.declared.Flaw.{Flaw}
@@ -23,25 +24,17 @@ numberOf XOrY = 4
 numberOf Untidy = 11
 numberOf OutOfRange = 12
 
--- what a writer answers, and the bytes that it was lent, as they are then
-pub record Putting : Type 0 where
-  pub answer : Written
-  pub bytes : List ℕ
-
-abbrev pub putting : Written → List ℕ → Putting
-putting answer bytes = record { answer = answer; bytes = bytes }
-
 -- a string is put at a place where there is room for it, and its end is answered; else the bytes stay as they were
-unfoldable pub putRoom : (out : List ℕ) (start : ℕ) (b : List ℕ) → Putting
-putRoom out start b = cond (leb (start + length b) (length out)) (putting (Done (start + length b)) (puts out start b)) (putting NoRoom out)
+unfoldable pub putRoom : (out : List ℕ) (start : ℕ) (b : List ℕ) → Writing Written
+putRoom out start b = cond (leb (start + length b) (length out)) (writing (Done (start + length b)) (puts out start b)) (writing NoRoom out)
 
 -- a flaw comes before the room: the bytes stay as they were
-unfoldable pub putFlaw : Flaw → (out : List ℕ) (start : ℕ) (b : List ℕ) → Putting
+unfoldable pub putFlaw : Flaw → (out : List ℕ) (start : ℕ) (b : List ℕ) → Writing Written
 putFlaw None out start b = putRoom out start b
-putFlaw XOrY out start b = putting Flawed out
-putFlaw Untidy out start b = putting Flawed out
-putFlaw OutOfRange out start b = putting Flawed out
+putFlaw XOrY out start b = writing Flawed out
+putFlaw Untidy out start b = writing Flawed out
+putFlaw OutOfRange out start b = writing Flawed out
 
 -- what writing a description does
-unfoldable pub putIf : (w : ℕ) → Description → (out : List ℕ) (start : ℕ) → Putting
+unfoldable pub putIf : (w : ℕ) → Description → (out : List ℕ) (start : ℕ) → Writing Written
 putIf w d out start = putFlaw (flawOf w d) out start (encodeDescription w d)

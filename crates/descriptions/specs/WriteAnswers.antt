@@ -4,11 +4,13 @@ use mathlib.Core.List.{List}
 use Prim.Native.Nat.{ℕ}
 use lib.ListN.{length}
 use Rattle.formats.specs.OneAnswer.{OneAnswer, named}
+use Rattle.formats.specs.Lent.{Writing, writing}
 use Rattle.channels.specs.Channel.{widthOf}
 use Rattle.channels.specs.declared.Description.{Description}
 use Rattle.channels.specs.declared.Format.{Format}
 use Rattle.descriptions.specs.Description.{encodeDescription}
-use Rattle.descriptions.specs.Write.{Putting, putting, flawOf, putIf}
+use Rattle.descriptions.specs.Write.{flawOf, putIf}
+use Rattle.descriptions.specs.declared.Written.{Written}
 
 pub one-flaw : (description : Description) (format : Format) → OneAnswer (λ r. r ≡ flawOf (widthOf format) description)
 one-flaw description format = named
@@ -18,5 +20,5 @@ one-size description format = named
 
 -- of the answer and the bytes together
 pub one-put : (out : List ℕ) (start : ℕ) (description : Description) (format : Format)
-    → OneAnswer (λ (p : Putting). putting (p .answer) (p .bytes) ≡ putIf (widthOf format) description out start)
+    → OneAnswer (λ (w : Writing Written). writing (w .answer) (w .bytes) ≡ putIf (widthOf format) description out start)
 one-put out start description format = named

@@ -12,10 +12,11 @@ use Rattle.formats.specs.Bytes.{impossible}
 use Rattle.formats.specs.Put.{puts, puts-is}
 use Rattle.formats.specs.Reader.{ok, after, readAt}
 use Rattle.formats.specs.Writes.{read-written}
+use Rattle.formats.specs.Lent.{writing}
 use Rattle.channels.specs.declared.Description.{Description}
 use Rattle.descriptions.specs.Description.{description, encodeDescription, includesXY, tidy, allFit, Valid}
 use Rattle.descriptions.specs.Encoded.{writes-description}
-use Rattle.descriptions.specs.Write.{flawOf, numberOf, putting, putRoom, putFlaw, putIf}
+use Rattle.descriptions.specs.Write.{flawOf, numberOf, putRoom, putFlaw, putIf}
 use Rattle.descriptions.specs.declared.Flaw.{Flaw}
 use Rattle.descriptions.specs.declared.Flaw.the-variants.{None, XOrY, Untidy, OutOfRange}
 use Rattle.descriptions.specs.declared.Written.the-variants.{Done, Flawed, NoRoom}
@@ -65,7 +66,7 @@ module _ (w : ℕ) (d : Description) where
 
 -- ---- The three ways that writing goes, by the flaw and the room
 
-flawed : (f : Flaw) (out : List ℕ) (start : ℕ) (b : List ℕ) → (f ≡ None → ⊥) → putFlaw f out start b ≡ putting Flawed out
+flawed : (f : Flaw) (out : List ℕ) (start : ℕ) (b : List ℕ) → (f ≡ None → ⊥) → putFlaw f out start b ≡ writing Flawed out
 unfolding putFlaw
 flawed None out start b h = absurd (h refl)
 flawed XOrY out start b h = refl
@@ -74,15 +75,15 @@ flawed OutOfRange out start b h = refl
 
 module _ (w : ℕ) (d : Description) (out : List ℕ) (start : ℕ) where
   pub put-done : flawOf w d ≡ None → start + length (encodeDescription w d) ≤ length out
-      → putIf w d out start ≡ putting (Done (start + length (encodeDescription w d))) (puts out start (encodeDescription w d))
+      → putIf w d out start ≡ writing (Done (start + length (encodeDescription w d))) (puts out start (encodeDescription w d))
   unfolding putIf putFlaw putRoom
   put-done e h = rw (e, le-leb (start + length (encodeDescription w d)) (length out) h)
 
-  pub put-crowded : flawOf w d ≡ None → length out < start + length (encodeDescription w d) → putIf w d out start ≡ putting NoRoom out
+  pub put-crowded : flawOf w d ≡ None → length out < start + length (encodeDescription w d) → putIf w d out start ≡ writing NoRoom out
   unfolding putIf putFlaw putRoom
   put-crowded e h = rw (e, lt-leb (start + length (encodeDescription w d)) (length out) h)
 
-  pub put-flawed : (flawOf w d ≡ None → ⊥) → putIf w d out start ≡ putting Flawed out
+  pub put-flawed : (flawOf w d ≡ None → ⊥) → putIf w d out start ≡ writing Flawed out
   unfolding putIf
   put-flawed h = flawed (flawOf w d) out start (encodeDescription w d) h
 

@@ -1,7 +1,13 @@
--- The public function has one answer: whatever meets its promise is the same.
+-- Each public function has one answer: whatever meets its promise is the same.
 use mathlib.Core.Path.{_≡_}
-use Prim.Native.Nat.{ℕ, _+_, _*_}
+use Prim.Native.Nat.{ℕ, _+_, _*_, _/_, _%_}
 use Rattle.formats.specs.OneAnswer.{OneAnswer, named}
 
 pub one-pair : (high low : ℕ) → OneAnswer (λ r. r ≡ high * 256 + low)
 one-pair high low = named
+
+pub one-high : (number : ℕ) → OneAnswer (λ r. r ≡ number / 256)
+one-high number = named
+
+pub one-low : (number : ℕ) → OneAnswer (λ r. r ≡ number % 256)
+one-low number = named

@@ -1,6 +1,6 @@
 // What a byte format is. Its theory is in specs/; the code of a format tells how reading it ended.
 ghost use mathlib.Core.Path.{_≡_};
-ghost use Prim.Native.Nat.{_+_, _*_};
+ghost use Prim.Native.Nat.{_+_, _*_, _/_, _%_};
 
 pub enum Outcome {
     // All is well: the place after what was read.
@@ -16,4 +16,18 @@ pub fn pair(high: u8, low: u8) -> u16
     ensures { λ r. ⌜ r ≡ high * 256 + low ⌝ }
 {
     (high as u16) * 256 + (low as u16)
+}
+
+// The high byte of a number of two bytes.
+pub fn high(number: u16) -> u8
+    ensures { λ r. ⌜ r ≡ number / 256 ⌝ }
+{
+    (number / 256) as u8
+}
+
+// The lowest byte of a number.
+pub fn low(number: u32) -> u8
+    ensures { λ r. ⌜ r ≡ number % 256 ⌝ }
+{
+    (number % 256) as u8
 }

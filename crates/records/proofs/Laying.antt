@@ -19,6 +19,7 @@ use Rattle.formats.specs.Number.{digits, length-digits}
 use Rattle.formats.specs.Put.{puts}
 use Rattle.formats.specs.Laid.{Room, Laid}
 use Rattle.formats.specs.Writes.{All, Each, encodeEach}
+use Rattle.formats.specs.Lent.{writing}
 use Rattle.channels.specs.Channel.{S, signedOf}
 use Rattle.channels.specs.Stored.{storedOf, storedIf, fits}
 use Rattle.channels.specs.Switch.{byteOf, byteIf, isState, state-byte}
@@ -27,7 +28,7 @@ use Rattle.channels.specs.declared.Stored.the-variants.{Number, Outside}
 use Rattle.channels.specs.declared.Descriptor.{Descriptor}
 use Rattle.channels.specs.declared.Description.{Description}
 use Rattle.descriptions.specs.Description.{absent, isStored, encodeDescription}
-use Rattle.descriptions.specs.Write.{flawOf, putting, putRoom, putFlaw, putIf}
+use Rattle.descriptions.specs.Write.{flawOf, putRoom, putFlaw, putIf}
 use Rattle.descriptions.specs.declared.Flaw.the-variants.{None}
 use Rattle.descriptions.specs.declared.Written.{Written}
 use Rattle.descriptions.specs.declared.Written.the-variants.{Done, Flawed, NoRoom}
@@ -226,12 +227,12 @@ laid-five s at a b c d e =
 
 -- a description without a flaw, for which there is room, is put
 pub put-there : (d : Description) (s : List ℕ) (at : ℕ) → flawOf 2 d ≡ None → Room s at (encodeDescription 2 d)
-    → putIf 2 d s at ≡ putting (Done (at + length (encodeDescription 2 d))) (puts s at (encodeDescription 2 d))
+    → putIf 2 d s at ≡ writing (Done (at + length (encodeDescription 2 d))) (puts s at (encodeDescription 2 d))
 unfolding putIf putFlaw putRoom
 put-there d s at e r = rw (e, le-leb (at + length (encodeDescription 2 d)) (length s) (r .enough))
 
-module _ (d : Description) (s t : List ℕ) (at : ℕ) (w : Written) (p : putting w t ≡ putIf 2 d s at) (e : flawOf 2 d ≡ None) (r : Room s at (encodeDescription 2 d)) where
-  done : putting w t ≡ putting (Done (at + length (encodeDescription 2 d))) (puts s at (encodeDescription 2 d))
+module _ (d : Description) (s t : List ℕ) (at : ℕ) (w : Written) (p : writing w t ≡ putIf 2 d s at) (e : flawOf 2 d ≡ None) (r : Room s at (encodeDescription 2 d)) where
+  done : writing w t ≡ writing (Done (at + length (encodeDescription 2 d))) (puts s at (encodeDescription 2 d))
   done = p ∙ put-there d s at e r
 
   answered : w ≡ Done (at + length (encodeDescription 2 d))

@@ -17,7 +17,7 @@ use Rattle.records.specs.Points.{placesAt, nowhere}
 use Rattle.formats.specs.Fixed.{fixed-times}
 use Rattle.records.specs.Nth.{fixed-point, nth-point}
 use Rattle.records.specs.Layout.{layoutOf}
-use Rattle.records.specs.Laid.{Laid, record-laid, short-laid, bad-laid}
+use Rattle.records.specs.Found.{LaidOut, record-laid, short-laid, bad-laid}
 use Rattle.records.specs.Verdict.{faultOf, judged, extendedPlace, extendedSize, extendedBytes, restPlace, restSize, pointedAt, placesIn}
 use Rattle.records.specs.declared.Layout.{Layout}
 use Rattle.records.specs.declared.Judged.{Judged}
@@ -34,7 +34,7 @@ module _ (s : List ℕ) (l : Layout) (e : l ≡ layoutOf s) where
     read : run fullRecord s ≡ ok whole end
     read = record-laid s l e o .1
 
-    laid : Laid s l whole end
+    laid : LaidOut s l whole end
     laid = record-laid s l e o .2
 
     pub judged-record : _≡_ {A = Judged} (record { verdict = verdict.Record end (l .front .count) (l .front .announced); description = l .front .description }) (judged (run fullRecord s))

@@ -9,11 +9,13 @@ use denote.Ref.{RefT, now}
 use Rattle.formats.specs.Reader.{run, readAt}
 use Rattle.formats.specs.OneAnswer.{OneAnswer, named}
 use Rattle.formats.specs.Part.{Part, SamePart, one-part}
+use Rattle.formats.specs.Lent.{Writing, writing}
 use Rattle.channels.specs.declared.Description.{Description}
 use Rattle.records.specs.Record.{point, width, fullRecord}
 use Rattle.records.specs.Points.{placesAt}
-use Rattle.records.specs.Write.{Writing, writing, writeOf}
+use Rattle.records.specs.Write.{writeOf}
 use Rattle.records.specs.Verdict.{judged, judgedWhole, extendedPlace, extendedSize, restPlace, restSize, pointedAt, placesIn}
+use Rattle.records.specs.declared.Written.{Written}
 
 module _ (s : List ℕ) where
   pub one-judged : OneAnswer (λ r. r ≡ judged (run fullRecord s))
@@ -45,5 +47,5 @@ module _ (s r q : RefT (List ℕ)) where
 
 -- a writer's answer and the later content of the output, together
 pub one-written : (d : Description) (count : ℕ) (values : List ℤ) (wanted : Bool) (extended out : List ℕ)
-    → OneAnswer (λ (w : Writing). writing (w .answer) (w .bytes) ≡ writeOf d count values wanted extended out)
+    → OneAnswer (λ (w : Writing Written). writing (w .answer) (w .bytes) ≡ writeOf d count values wanted extended out)
 one-written d count values wanted extended out = named

@@ -15,6 +15,7 @@ use Rattle.formats.specs.Put.{puts, puts-is}
 use Rattle.formats.specs.Reader.{ok, run}
 use Rattle.formats.specs.Law.{whole}
 use Rattle.formats.specs.Writes.{All, Each}
+use Rattle.formats.specs.Lent.{writing}
 use Rattle.channels.specs.declared.Description.{Description}
 use Rattle.descriptions.specs.Description as described
 use Rattle.descriptions.specs.Write.{flawOf}
@@ -24,7 +25,7 @@ use Rattle.records.specs.Record.{Record, fullRecord, encode, stored, fit
 use Rattle.records.specs.Values.{pointsOf}
 use Rattle.records.specs.Demands.{read-after-write, write-after-read}
 use Rattle.records.specs.Verdict.{present, extendedBytes, judged}
-use Rattle.records.specs.Write.{recordOf, fitsEach, fitsRow, check, checkValues, byFlaw, Passed, Writing, writing, putWhere, writeOf}
+use Rattle.records.specs.Write.{recordOf, fitsEach, fitsRow, check, checkValues, byFlaw, Passed, putWhere, writeOf}
 use Rattle.records.specs.WriteLaws.{points-many, passed, passed-valid, at-record}
 use Rattle.records.specs.declared.Judged.{Judged}
 use Rattle.records.specs.declared.Verdict.the-variants as verdict

@@ -9,6 +9,7 @@ use lib.IntN.{ℤ}
 use lib.ListN.{length, drop}
 use Rattle.formats.specs.Put.{puts}
 use Rattle.formats.specs.Number.{digits}
+use Rattle.formats.specs.Lent.{Writing, writing}
 use Rattle.channels.specs.declared.Description.{Description}
 use Rattle.descriptions.specs.Description.{encodeDescription}
 use Rattle.descriptions.specs.Write.{flawOf}
@@ -66,16 +67,8 @@ byFlaw flaw.OutOfRange w = written.AttributeRange
 unfoldable pub check : Description → (count : ℕ) (values : List ℤ) (wanted : Bool) (extended : List ℕ) → Written
 check d count values wanted extended = byFlaw (flawOf 2 d) (checkValues d count values wanted extended)
 
--- what a writer answers, and the bytes that it was lent, as they are then
-pub record Writing : Type 0 where
-  pub answer : Written
-  pub bytes : List ℕ
-
-abbrev pub writing : Written → List ℕ → Writing
-writing answer bytes = record { answer = answer; bytes = bytes }
-
 -- a record is put at the start where there is room for it; else the bytes stay as they were
-unfoldable pub putWhere : Record → (out : List ℕ) → Written → Writing
+unfoldable pub putWhere : Record → (out : List ℕ) → Written → Writing Written
 putWhere r out (written.Record n) = cond (leb n (length out)) (writing (written.Record n) (puts out 0 (encode r))) (writing written.Room out)
 putWhere r out written.XOrY = writing written.XOrY out
 putWhere r out written.Untidy = writing written.Untidy out
@@ -86,7 +79,7 @@ putWhere r out written.ValueRange = writing written.ValueRange out
 putWhere r out written.ExtendedSize = writing written.ExtendedSize out
 putWhere r out written.Room = writing written.Room out
 
-unfoldable pub writeOf : Description → (count : ℕ) (values : List ℤ) (wanted : Bool) (extended : List ℕ) (out : List ℕ) → Writing
+unfoldable pub writeOf : Description → (count : ℕ) (values : List ℤ) (wanted : Bool) (extended : List ℕ) (out : List ℕ) → Writing Written
 writeOf d count values wanted extended out = putWhere (recordOf d count values wanted extended) out (check d count values wanted extended)
 
 -- ---- The parts, as they are put one behind the other

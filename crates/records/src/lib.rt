@@ -12,7 +12,7 @@ ghost use mathlib.Core.Bool.{true, cond};
 ghost use mathlib.Core.Option.{some, none};
 ghost use lib.Dec.{T};
 ghost use mathlib.Core.List.{flatMap};
-ghost use Prim.Native.Nat.{_+_, _*_, _/_, _%_, _≤_, _<_};
+ghost use Prim.Native.Nat.{_+_, _*_, _≤_, _<_};
 ghost use lib.ListN.{length, drop};
 ghost use Rattle.formats.specs.Reader.{readAt, times, run};
 ghost use Rattle.formats.specs.Told.{told, repeated, matched};
@@ -21,6 +21,7 @@ ghost use Rattle.formats.specs.Part.{Part};
 ghost use Rattle.formats.specs.Number.{digits};
 ghost use Rattle.formats.specs.Writes.{encodeEach};
 ghost use Rattle.formats.specs.Laid.{Room, Laid};
+ghost use Rattle.formats.specs.Lent.{writing};
 ghost use Rattle.descriptions.specs.Description.{encodeDescription};
 ghost use Rattle.descriptions.specs.Write.{flawOf};
 ghost use Rattle.descriptions.specs.declared.Flaw.the-variants.{None};
@@ -29,7 +30,7 @@ ghost use Rattle.records.specs.Values.{pointsOf};
 ghost use Rattle.records.specs.Front.{marks, opened, channelled, front};
 ghost use Rattle.records.specs.Layout.{noFront, fronted, nowhereLaid, laidExtension, laidPoints, layoutOf};
 ghost use Rattle.records.specs.Verdict.{faultOf, judged, judgedWhole, extendedPlace, extendedSize, restPlace, restSize, pointedAt, placesIn};
-ghost use Rattle.records.specs.Write.{fitsEach, fitsRow, openingBytes, frontBytes, recordOf, checkValues, check, Passed, writing, writeOf};
+ghost use Rattle.records.specs.Write.{fitsEach, fitsRow, openingBytes, frontBytes, recordOf, checkValues, check, Passed, writeOf};
 ghost use Rattle.records.specs.Points.{sampled, taken, seat, placesAt, switched};
 
 const IDENTIFIER: [u8; 4] = [0x53, 0x44, 0x49, 0x00];
@@ -691,25 +692,13 @@ fn values_fit(values: &[i32], n: usize, d: Description) -> bool
     true
 }
 
-fn high(number: u16) -> u8
-    ensures { λ r. ⌜ r ≡ number / 256 ⌝ }
-{
-    (number / 256) as u8
-}
-
-fn low(number: u16) -> u8
-    ensures { λ r. ⌜ r ≡ number % 256 ⌝ }
-{
-    (number % 256) as u8
-}
-
 // Two bytes are put, the high one first; this and each that follows answers where the next goes.
 fn put_pair(out: &mut [u8], at: usize, number: u16) -> usize
     requires { ⌜ Room (now out) at (digits 2 number) ⌝ }
     ensures { λ r. ⌜ Laid (now (out .entry)) at (digits 2 number) (now (out .exit)) r ⌝ }
 {
-    out[at] = high(number);
-    out[at + 1] = low(number);
+    out[at] = formats::high(number);
+    out[at + 1] = formats::low(number as u32);
     at + 2
 }
 
@@ -721,7 +710,7 @@ fn put_sample(out: &mut [u8], at: usize, channel: usize, value: i32) -> usize
     if channel == channels::S {
         match channels::byte_of(value) {
             Stored::Number(byte) => {
-                out[at] = low(byte);
+                out[at] = formats::low(byte as u32);
                 at + 1
             }
             Stored::Outside => at, // never: the number fits

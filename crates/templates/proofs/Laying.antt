@@ -9,9 +9,10 @@ use lib.ListN.{length, drop, length-append}
 use Rattle.formats.specs.Laid.{Room, Laid, laid-more, room-first, room-rest}
 use Rattle.formats.specs.Put.{puts, puts-is}
 use Rattle.formats.specs.Number.{digits, length-digits}
+use Rattle.formats.specs.Lent.{writing}
 use Rattle.channels.specs.declared.Description.{Description}
 use Rattle.descriptions.specs.Description.{encodeDescription}
-use Rattle.descriptions.specs.Write.{flawOf, putting}
+use Rattle.descriptions.specs.Write.{flawOf}
 use Rattle.descriptions.specs.declared.Written.{Written}
 use Rattle.descriptions.specs.declared.Written.the-variants.{Done}
 use Rattle.templates.specs.Template.{field, fewest, shortest, encodeDescribed, encodeLimited, encode}
@@ -81,7 +82,7 @@ module _ (limited : Bool) (n : ℕ) where
 
 -- ---- A description that was put
 
-pub put-laid : (t : List ℕ) (m : ℕ) (b : List ℕ) {answer : Written} {u : List ℕ} {n : ℕ} → putting answer u ≡ putting (Done (m + length b)) (puts t m b) → answer ≡ Done n → Laid t m b u n
+pub put-laid : (t : List ℕ) (m : ℕ) (b : List ℕ) {answer : Written} {u : List ℕ} {n : ℕ} → writing answer u ≡ writing (Done (m + length b)) (puts t m b) → answer ≡ Done n → Laid t m b u n
 put-laid t m b e q = let a = ap (λ p. p .answer) e in record { place = cc; bytes = ap (λ p. p .bytes) e }
 
 -- ---- The whole

@@ -4,14 +4,16 @@ use mathlib.Core.Bool.{Bool}
 use mathlib.Core.List.{List}
 use Prim.Native.Nat.{ℕ}
 use Rattle.formats.specs.OneAnswer.{OneAnswer, named}
+use Rattle.formats.specs.Lent.{Writing, writing}
 use Rattle.channels.specs.declared.Description.{Description}
+use Rattle.templates.specs.declared.Written.{Written}
 use Rattle.templates.specs.Reading.{templateOf}
-use Rattle.templates.specs.Writing.{Writing, writing, writeOf}
+use Rattle.templates.specs.Writing.{writeOf}
 
 pub one-read : (bytes : List ℕ) → OneAnswer (λ r. r ≡ templateOf bytes)
 one-read bytes = named
 
 -- of the answer and the bytes together
 pub one-write : (described : Bool) (description : Description) (limited : Bool) (maximum : ℕ) (out : List ℕ)
-    → OneAnswer (λ (w : Writing). writing (w .answer) (w .bytes) ≡ writeOf described description limited maximum out)
+    → OneAnswer (λ (w : Writing Written). writing (w .answer) (w .bytes) ≡ writeOf described description limited maximum out)
 one-write described description limited maximum out = named

@@ -1,4 +1,4 @@
--- P10 and P11 of the scope, its other templates, that of annex C.2.1, and each refusal: some bytes, and what reading them answers.
+-- The templates of the scope that are none of its examples (those stand in the crate `examples`), that of annex C.2.1, and each refusal: some bytes, and what reading them answers.
 use mathlib.Core.Path.{_≡_, refl}
 use mathlib.Core.Bool.{true, false}
 use mathlib.Core.List.{List, [], _∷_, _++_, map}
@@ -7,7 +7,7 @@ use lib.IntN.{pos}
 use lib.ListN.{replicate}
 use Rattle.formats.specs.Reader as reader
 use Rattle.formats.specs.Reader.{next, run, bind, each, one}
-use Rattle.formats.specs.Number.{number, value}
+use Rattle.formats.specs.Number.{number}
 use Rattle.channels.specs.Channel.{signedOf}
 use Rattle.channels.specs.Stored.{offset, valueOf}
 use Rattle.channels.specs.declared.Descriptor.{Descriptor}
@@ -63,9 +63,7 @@ example b n a = record { bytes = b; number = n; answer = a }
 
 abbrev table : List Example
 table =
-    example (0xB1 ∷ 0x03 ∷ 0x82 ∷ 0x01 ∷ 0x64 ∷ []) 0 (accepted (saying false nothing true 100))  -- P10
-    ∷ example (0xB1 ∷ 0x04 ∷ 0x82 ∷ 0x02 ∷ 0x00 ∷ 0x64 ∷ []) 18 (refused Maximum)  -- P11
-    ∷ example (0xB1 ∷ 0x00 ∷ []) 0 (accepted (saying false nothing false 0))
+    example (0xB1 ∷ 0x00 ∷ []) 0 (accepted (saying false nothing false 0))
     ∷ example (0xB1 ∷ 0x06 ∷ 0x81 ∷ 0x04 ∷ 0xC0 ∷ 0x00 ∷ 0x00 ∷ 0x00 ∷ []) 0 (accepted (saying true (xy (replicate 14 absent)) false 0))
     ∷ example (0xB1 ∷ 0x09 ∷ 0x81 ∷ 0x07 ∷ 0xC0 ∷ 0x80 ∷ 0x00 ∷ 0x00 ∷ 0x84 ∷ 0xB4 ∷ 0x80 ∷ []) 0
     (accepted (saying true (xy (replicate 6 absent ++ steady ∷ replicate 7 absent)) false 0))  -- C.2.1
@@ -92,6 +90,6 @@ abbrev found : Example → Example
 found e = example (e .bytes) (numbered (templateOf (e .bytes) .verdict)) (templateOf (e .bytes))
 
 pub examples : map found table ≡ table
-unfolding run next bind reader.map each one number value valueOf offset signedOf attribute descriptor includes channelOf description nothing
+unfolding run next bind reader.map each one number valueOf offset signedOf attribute descriptor includes channelOf description nothing
     numberOf withContent isShortest atEnd limitedBy limitedFrom filling describedBy contentOf lengthAndContent templateOf
 examples = refl

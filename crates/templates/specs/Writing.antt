@@ -4,6 +4,7 @@ use mathlib.Core.List.{List, _++_}
 use Prim.Native.Nat.{ℕ}
 use lib.Dec.{leb, ltb}
 use lib.ListN.{length, drop}
+use Rattle.formats.specs.Lent.{Writing, writing}
 use Rattle.channels.specs.declared.Description.{Description}
 use Rattle.descriptions.specs.Write.{flawOf}
 use Rattle.descriptions.specs.declared.Flaw.{Flaw}
@@ -21,14 +22,6 @@ writtenNumber Untidy = 11
 writtenNumber OutOfRange = 12
 writtenNumber NoRoom = 15
 
--- the answer, and the bytes as they are then
-pub record Writing : Type 0 where
-  pub answer : Written
-  pub bytes : List ℕ
-
-abbrev pub writing : Written → List ℕ → Writing
-writing answer bytes = record { answer = answer; bytes = bytes }
-
 -- the first flaw of the description, where 81 is wanted
 unfoldable pub flawIf : (described : Bool) → Description → Flaw
 flawIf true d = flawOf 1 d
@@ -39,18 +32,18 @@ unfoldable pub exceeds : (limited : Bool) (maximum : ℕ) → Bool
 exceeds limited n = limited && ltb 16777215 n
 
 -- a flaw leaves the bytes as they were
-unfoldable pub unflawed : Flaw → (out : List ℕ) → Writing → Writing
+unfoldable pub unflawed : Flaw → (out : List ℕ) → Writing Written → Writing Written
 unflawed flaw.None out rest = rest
 unflawed flaw.XOrY out rest = writing XOrY out
 unflawed flaw.Untidy out rest = writing Untidy out
 unflawed flaw.OutOfRange out rest = writing OutOfRange out
 
 -- bytes that there is room for come first, and the others are untouched
-unfoldable pub inRoom : (b out : List ℕ) → Writing
+unfoldable pub inRoom : (b out : List ℕ) → Writing Written
 inRoom b out = cond (leb (length b) (length out)) (writing (Done (length b)) (b ++ drop (length b) out)) (writing NoRoom out)
 
 -- the description, the maximum, and then the room
-unfoldable pub writeOf : (described : Bool) (d : Description) (limited : Bool) (maximum : ℕ) (out : List ℕ) → Writing
+unfoldable pub writeOf : (described : Bool) (d : Description) (limited : Bool) (maximum : ℕ) (out : List ℕ) → Writing Written
 writeOf described d limited maximum out =
     unflawed (flawIf described d) out
     (cond (exceeds limited maximum) (writing OutOfRange out)

@@ -9,6 +9,7 @@ use lib.ListN.{length, take, drop}
 use lib.Seq.{take-append-seam}
 use borrow.Author.Tests.{le-leb, leb-true, le-ltb, ltb-false}
 use Rattle.formats.specs.Bytes.{Bytes, impossible}
+use Rattle.formats.specs.Lent.{Writing, writing}
 use Rattle.channels.specs.declared.Description.{Description}
 use Rattle.descriptions.specs.Description.{includesXY, tidy, allFit}
 use Rattle.descriptions.specs.Read.{nothing}
@@ -17,11 +18,12 @@ use Rattle.descriptions.specs.WriteLaws.{flawless-valid, valid-flawless}
 use Rattle.descriptions.specs.declared.Flaw.{Flaw}
 use Rattle.descriptions.specs.declared.Flaw.the-variants as flaw
 use Rattle.templates.specs.declared.Template.{Template}
+use Rattle.templates.specs.declared.Written.{Written}
 use Rattle.templates.specs.declared.Written.the-variants.{Done, XOrY, Untidy, OutOfRange, NoRoom}
 use Rattle.templates.specs.Template.{encodeDescribed, encodeLimited, encode, Describes, Limits}
 use Rattle.templates.specs.Reading.{saying, accepted, templateOf}
 use Rattle.templates.specs.Encoded.{read-written, written-read}
-use Rattle.templates.specs.Writing.{writtenNumber, Writing, writing, flawIf, exceeds, unflawed, inRoom, writeOf}
+use Rattle.templates.specs.Writing.{writtenNumber, flawIf, exceeds, unflawed, inRoom, writeOf}
 
 -- the template that is written: zeros stand for what isn't wanted
 abbrev pub wanted : (described : Bool) (d : Description) (limited : Bool) (maximum : ℕ) → Template
@@ -136,7 +138,7 @@ module _ (described : Bool) (d : Description) (limited : Bool) (n : ℕ) (out : 
       rest true = refl
       rest false = room (leb (length b) (length out))
 
-      stages : (p q r : Bool) (w : Writing) (m : ℕ) → writtenNumber (w .answer) ≡ m
+      stages : (p q r : Bool) (w : Writing Written) (m : ℕ) → writtenNumber (w .answer) ≡ m
           → writtenNumber (unflawed (cond (not p) flaw.XOrY (cond (not q) flaw.Untidy (cond (not r) flaw.OutOfRange flaw.None))) out w .answer)
           ≡ cond (not p) 4 (cond (not q) 11 (cond (not r) 12 m))
       stages true true true w m e = e

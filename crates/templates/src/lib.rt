@@ -6,13 +6,14 @@ use formats::Outcome;
 ghost use mathlib.Core.Path.{_≡_};
 ghost use mathlib.Core.Bool.{true, false};
 ghost use mathlib.Core.List.{[], _∷_, _++_};
-ghost use Prim.Native.Nat.{_-_, _%_, _≤_, _<_};
+ghost use Prim.Native.Nat.{_-_, _≤_, _<_};
 ghost use lib.ListN.{length, take, drop};
 ghost use Rattle.formats.specs.Number.{value};
 ghost use Rattle.formats.specs.Laid.{Room, Laid};
+ghost use Rattle.formats.specs.Lent.{writing};
 ghost use Rattle.templates.specs.Template.{fewest, shortest, encodeDescribed, encodeLimited, encode};
 ghost use Rattle.templates.specs.Reading.{saying, accepted, refused, endOf, isShortest, limitedBy, limitedFrom, describedBy, contentOf, templateOf};
-ghost use Rattle.templates.specs.Writing.{writing, flawIf, exceeds, inRoom, writeOf};
+ghost use Rattle.templates.specs.Writing.{flawIf, exceeds, inRoom, writeOf};
 ghost use Rattle.descriptions.specs.declared.Flaw.the-variants as flaw;
 
 // What a template says: a description of channels if it has one, and the largest number of points if it names one.
@@ -300,12 +301,6 @@ fn limited_size(limited: bool, maximum: u32) -> usize
     2 + fewest(maximum)
 }
 
-fn low_byte(number: u32) -> u8
-    ensures { λ r. ⌜ r ≡ number % 256 ⌝ }
-{
-    (number % 256) as u8
-}
-
 // A field's tag and length; this and each that follows answers where the next byte goes.
 fn put_head(out: &mut [u8], at: usize, tag: u8, size: usize) -> usize
     requires { ⌜ (size < 128) × Room (now out) at (tag ∷ size ∷ []) ⌝ }
@@ -322,17 +317,17 @@ fn put_shortest(out: &mut [u8], at: usize, number: u32) -> usize
     ensures { λ r. ⌜ Laid (now (out .entry)) at (shortest number) (now (out .exit)) r ⌝ }
 {
     if number < 256 {
-        out[at] = low_byte(number);
+        out[at] = formats::low(number);
         return at + 1;
     }
     if number < 65536 {
-        out[at] = low_byte(number / 256);
-        out[at + 1] = low_byte(number);
+        out[at] = formats::low(number / 256);
+        out[at + 1] = formats::low(number);
         return at + 2;
     }
-    out[at] = low_byte(number / 65536);
-    out[at + 1] = low_byte(number / 256);
-    out[at + 2] = low_byte(number);
+    out[at] = formats::low(number / 65536);
+    out[at + 1] = formats::low(number / 256);
+    out[at + 2] = formats::low(number);
     at + 3
 }
 

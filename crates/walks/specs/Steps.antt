@@ -7,7 +7,7 @@ use native.Mathlib.Omega.{arith}
 use lib.Dec.{ltb}
 use lib.ListN.{length, take, drop, getD, length-append, length-drop, take-append-drop}
 use lib.Seq.{take-suc, drop-cons, drop-append-seam, take-add}
-use borrow.Author.Tests.{lt-ltb, le-ltb, ltb-false}
+use borrow.Author.Tests.{lt-ltb, le-ltb, ltb-true, ltb-false}
 use Rattle.formats.specs.Bytes.{Bytes, bytes-drop, impossible}
 use Rattle.formats.specs.Reader.{Answer, ok, short, bad, run, bind, literal}
 use Rattle.formats.specs.Law.{whole}
@@ -16,6 +16,7 @@ use Rattle.records.specs.Record.{Record, fullRecord, IsRecord}
 use Rattle.records.specs.Demands.{read-after-write, write-after-read}
 use Rattle.walks.specs.Walk.{stays, stepped, stepOf, recordOf, startOf}
 use Rattle.walks.specs.declared.Found.the-variants as found
+use Rattle.walks.specs.declared.Step.{Step}
 
 -- ---- Joined lists
 
@@ -58,20 +59,20 @@ wants : run fullRecord [] ≡ short
 unfolding fullRecord literal run bind
 wants = refl
 
+-- so a record that is read has a byte
+some-bytes : (s : List ℕ) (r : Record) (n : ℕ) → run fullRecord s ≡ ok r n → 0 < n
+some-bytes s r zero e = impossible (cc (wants, whole fullRecord s e .same []))
+some-bytes s r (suc n) e = omega arith
+
 -- a record is read whatever follows it
 read-joined : {b : List ℕ} (t : List ℕ) (x : IsRecord b) → run fullRecord (b ++ t) ≡ ok (x .value) (length b)
 read-joined t x = rw (x .written) (read-after-write (x .value) t (x .valid))
-
--- so it has a byte
-some-bytes : (b : List ℕ) → IsRecord b → 0 < length b
-some-bytes [] x = impossible (cc (wants, read-joined [] x))
-some-bytes (a ∷ b) x = omega arith
 
 pub step-record : (file : List ℕ) (place : ℕ) {b : List ℕ} (t : List ℕ) (x : IsRecord b) → drop place file ≡ b ++ t → stepOf file place ≡ record { found = recordOf x; next = place + length b }
 unfolding stepOf stepped
 step-record file place {b} t x e =
     let n = ap length e in
-    rw (lt-ltb place (length file) (omega (arith, some-bytes b x, length-drop place file, length-append b t, n)), e, read-joined t x)
+    rw (lt-ltb place (length file) (omega (arith, some-bytes (b ++ t) (x .value) (length b) (read-joined t x), length-drop place file, length-append b t, n)), e, read-joined t x)
 
 pub step-end : (file : List ℕ) (place : ℕ) → length file ≤ place → stepOf file place ≡ stays found.End place
 unfolding stepOf
@@ -93,6 +94,23 @@ end-there file place e = go (ltb place (length file)) refl (run fullRecord (drop
     go : (t : Bool) → ltb place (length file) ≡ t → (x : Answer Record) → cond t (stepped place x) (stays found.End place) .found ≡ found.End → length file ≤ place
     go true h x q = absurd (never place x q)
     go false h x q = ltb-false place (length file) h
+
+moves : (file : List ℕ) (place : ℕ) {n k : ℕ} {t : Bool} → stepOf file place .found ≡ found.Record n k t
+    → (place < stepOf file place .next) × (stepOf file place .next ≤ length file)
+unfolding stepOf stepped
+moves file place {n} {k} {t} e = go (ltb place (length file)) refl (run fullRecord (drop place file)) refl e
+  where
+    go : (b : Bool) → ltb place (length file) ≡ b → (x : Answer Record) → run fullRecord (drop place file) ≡ x
+        → cond b (stepped place x) (stays found.End place) .found ≡ found.Record n k t
+        → (place < cond b (stepped place x) (stays found.End place) .next) × (cond b (stepped place x) (stays found.End place) .next ≤ length file)
+    go true h (ok r m) g q = (omega (arith, some-bytes (drop place file) r m g), omega (arith, ltb-true, whole fullRecord (drop place file) g .within, length-drop place file))
+    go true h short g q = impossible (cc)
+    go true h (bad j p) g q = impossible (cc)
+    go false h x g q = impossible (cc)
+
+-- a step over a record leads on, and not beyond the file
+pub step-on : (file : List ℕ) (place : ℕ) (r : Step) → r ≡ stepOf file place → {n k : ℕ} {t : Bool} → r .found ≡ found.Record n k t → (place < r .next) × (r .next ≤ length file)
+step-on file place r e g = rw e (moves file place (ap (λ (x : Step). x .found) (sym e) ∙ g))
 
 -- the bytes before a place are whole records
 pub record Passed (file : List ℕ) (place : ℕ) : Type 0 where

@@ -13,8 +13,8 @@ use Rattle.descriptions.proofs.put_number.Tie as tie
 enum-told : tie.Need-enum-told
 enum-told c = search needs
 
-high-byte-requires : tie.Need-high-byte-requires
-high-byte-requires c κs = search needs
+high-requires : tie.Need-high-requires
+high-requires c κs = search needs
 
 -- the room, as the format has it
 room-two : (c : tie.After-enum-told) → c .before .before .before .args .at + 2 ≤ length (c .before .before .before .args .out .now)
@@ -28,8 +28,8 @@ room-one c = digits-room (c .before .before .before .args .number) (ap widthOf (
 slice-write-out : tie.Need-slice-write-out
 slice-write-out c = omega (arith, room-two (c .before))
 
-low-byte-requires : tie.Need-low-byte-requires
-low-byte-requires c κs = search needs
+low-requires : tie.Need-low-requires
+low-requires c κs = search needs
 
 add-out : tie.Need-add-out
 add-out c = search needs
@@ -43,8 +43,8 @@ add-result c = search needs
 enum-told-2 : tie.Need-enum-told-2
 enum-told-2 c = search needs
 
-low-byte-requires-2 : tie.Need-low-byte-requires-2
-low-byte-requires-2 c κs = search needs
+low-requires-2 : tie.Need-low-requires-2
+low-requires-2 c κs = search needs
 
 slice-write-out-3 : tie.Need-slice-write-out-3
 slice-write-out-3 c = omega (arith, room-one (c .before))
@@ -59,7 +59,7 @@ returns : tie.Need-returns
 unfolding widthOf puts
 returns c =
     let a = c .before .before .before .before .before .args in
-    rw (c .before .before .enum-told .given .1, two-bytes (a .number) (omega arith), c .before .high-byte .ensures, c .low-byte .ensures) (record { place = refl; bytes = refl })
+    rw (c .before .before .enum-told .given .1, two-bytes (a .number) (omega arith), c .before .high .ensures, c .low .ensures) (record { place = refl; bytes = refl })
 
 same-length-2 : tie.Need-same-length-2
 same-length-2 c = search needs
@@ -68,21 +68,21 @@ returns-2 : tie.Need-returns-2
 unfolding widthOf puts
 returns-2 c =
     let a = c .before .before .before .before .args in
-    rw (c .before .enum-told2 .given .1, one-byte (a .number), c .low-byte2 .ensures) (record { place = refl; bytes = refl })
+    rw (c .before .enum-told2 .given .1, one-byte (a .number), c .low2 .ensures) (record { place = refl; bytes = refl })
 
 pub put-number-spec : {M : Type 1} → statement M
 put-number-spec =
     tie.close
     (tie.spec
     enum-told
-    high-byte-requires
+    high-requires
     slice-write-out
-    low-byte-requires
+    low-requires
     add-out
     slice-write-out-2
     add-result
     enum-told-2
-    low-byte-requires-2
+    low-requires-2
     slice-write-out-3
     add-result-2
     same-length

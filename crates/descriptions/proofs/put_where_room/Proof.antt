@@ -5,9 +5,10 @@ use native.Mathlib.Omega.{arith}
 use borrow.Author.Needs.{needs}
 use borrow.Author.Tests.{le-leb, lt-leb}
 use lib.ListN.{length}
+use Rattle.formats.specs.Lent.{writing}
 use Rattle.channels.specs.Channel.{widthOf}
 use Rattle.descriptions.specs.Description.{encodeDescription}
-use Rattle.descriptions.specs.Write.{putting, putRoom}
+use Rattle.descriptions.specs.Write.{putRoom}
 use Rattle.descriptions.specs.declared.Written.the-variants.{Done}
 use Rattle.descriptions.proofs.put_where_room.Statement.{statement}
 use Rattle.descriptions.proofs.put_where_room.Tie as tie
@@ -45,7 +46,7 @@ returns-3 c =
     let m = e .before .before in
     let a = m .before .before .args in
     rw (le-leb (a .start + length (encodeDescription (widthOf (a .format)) (a .description))) (length (a .out .now)) (omega (arith, m .size .ensures)))
-    (ap₂ (λ n t. putting (Done n) t) (p .put-description .ensures .place) (p .put-description .ensures .bytes))
+    (ap₂ (λ n t. writing (Done n) t) (p .put-description .ensures .place) (p .put-description .ensures .bytes))
 
 pub put-where-room-spec : {M : Type 1} → statement M
 put-where-room-spec =

@@ -4,7 +4,7 @@ use Prim.Native.Nat.{_≤_, _<_, _-_}
 use native.Mathlib.Omega.{arith}
 use borrow.Author.Needs.{needs}
 use lib.ListN.{length}
-use Rattle.list.proofs.Steps.{step-on}
+use Rattle.walks.specs.Steps.{step-on}
 use Rattle.list.proofs.put_file.Statement.{statement}
 use Rattle.list.proofs.put_file.Tie as tie
 

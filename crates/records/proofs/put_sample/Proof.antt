@@ -24,6 +24,9 @@ byte-of-requires c κs = search needs
 enum-known-byte : tie.Need-enum-known-byte
 enum-known-byte c = search needs
 
+cast-low : tie.Need-cast-low
+cast-low c = search needs
+
 low-requires : tie.Need-low-requires
 low-requires c κs = search needs
 
@@ -104,6 +107,7 @@ put-sample-spec =
     (tie.spec
     byte-of-requires
     enum-known-byte
+    cast-low
     low-requires
     slice-write-out
     add-result

@@ -5,8 +5,9 @@ use native.Mathlib.Omega.{arith}
 use lib.ListN.{length}
 use borrow.Author.Tests.{le-leb, lt-leb}
 use Rattle.formats.specs.Laid.{Room}
+use Rattle.formats.specs.Lent.{writing}
 use Rattle.records.specs.Record.{Record, encode}
-use Rattle.records.specs.Write.{recordOf, check, Passed, writing, putWhere, writeOf}
+use Rattle.records.specs.Write.{recordOf, check, Passed, putWhere, writeOf}
 use Rattle.records.specs.WriteLaws.{passed}
 use Rattle.records.specs.declared.Written.{Written}
 use Rattle.records.specs.declared.Written.the-variants as written

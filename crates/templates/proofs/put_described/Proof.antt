@@ -9,10 +9,10 @@ use mathlib.Core.Bool.{true}
 use Rattle.formats.specs.Bytes.{impossible}
 use Rattle.formats.specs.Laid.{Room, laid-none}
 use Rattle.formats.specs.Put.{puts}
+use Rattle.formats.specs.Lent.{writing}
 use Rattle.channels.specs.Channel.{widthOf}
 use Rattle.descriptions.specs.Description.{encodeDescription}
 use Rattle.descriptions.specs.Size.{description-size}
-use Rattle.descriptions.specs.Write.{putting}
 use Rattle.descriptions.specs.WriteLaws.{put-done}
 use Rattle.descriptions.specs.declared.Written.the-variants.{Done}
 use Rattle.templates.specs.Template.{field, encodeDescribed}
@@ -44,7 +44,7 @@ module _ (c : tie.After-put) where
   head = c .before .before .before .before
 
   put : let b = encodeDescription 1 (start (head .before) .args .description) in
-      putting (c .put .result) (c .put .last .0) ≡ putting (Done (head .put-head .result + length b)) (puts (head .put-head .last .0) (head .put-head .result) b)
+      writing (c .put .result) (c .put .last .0) ≡ writing (Done (head .put-head .result + length b)) (puts (head .put-head .last .0) (head .put-head .result) b)
   unfolding widthOf
   put =
       let f = head .before in

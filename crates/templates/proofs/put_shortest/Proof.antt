@@ -20,8 +20,8 @@ room-two c = room-bytes _ (two-bytes _ (c .before .if1 .left) (c .if2 .taken)) (
 room-three : (c : tie.Else2) → c .before .before .before .args .at + 3 ≤ length (c .before .before .before .args .out .now)
 room-three c = room-bytes _ (three-bytes _ (c .if2 .left)) (c .before .before .before .pre)
 
-low-byte-requires : tie.Need-low-byte-requires
-low-byte-requires c κs = search needs
+low-requires : tie.Need-low-requires
+low-requires c κs = search needs
 
 slice-write-out : tie.Need-slice-write-out
 slice-write-out c = omega (arith, room-one (c .before))
@@ -34,16 +34,16 @@ same-length c = search needs
 
 returns : tie.Need-returns
 unfolding puts
-returns c = rw (shortest-one _ (c .before .if1 .taken), c .low-byte .ensures) (record { place = refl; bytes = refl })
+returns c = rw (shortest-one _ (c .before .if1 .taken), c .low .ensures) (record { place = refl; bytes = refl })
 
-low-byte-requires-2 : tie.Need-low-byte-requires-2
-low-byte-requires-2 c κs = search needs
+low-requires-2 : tie.Need-low-requires-2
+low-requires-2 c κs = search needs
 
 slice-write-out-2 : tie.Need-slice-write-out-2
 slice-write-out-2 c = omega (arith, room-two (c .before))
 
-low-byte-requires-3 : tie.Need-low-byte-requires-3
-low-byte-requires-3 c κs = search needs
+low-requires-3 : tie.Need-low-requires-3
+low-requires-3 c κs = search needs
 
 add-out : tie.Need-add-out
 add-out c = search needs
@@ -61,16 +61,16 @@ returns-2 : tie.Need-returns-2
 unfolding puts
 returns-2 c =
     let b = c .before .before in
-    rw (shortest-two _ (b .before .if1 .left) (b .if2 .taken), c .before .low-byte2 .ensures, c .low-byte3 .ensures) (record { place = refl; bytes = refl })
+    rw (shortest-two _ (b .before .if1 .left) (b .if2 .taken), c .before .low2 .ensures, c .low3 .ensures) (record { place = refl; bytes = refl })
 
-low-byte-requires-4 : tie.Need-low-byte-requires-4
-low-byte-requires-4 c κs = search needs
+low-requires-4 : tie.Need-low-requires-4
+low-requires-4 c κs = search needs
 
 slice-write-out-4 : tie.Need-slice-write-out-4
 slice-write-out-4 c = omega (arith, room-three (c .before))
 
-low-byte-requires-5 : tie.Need-low-byte-requires-5
-low-byte-requires-5 c κs = search needs
+low-requires-5 : tie.Need-low-requires-5
+low-requires-5 c κs = search needs
 
 add-out-2 : tie.Need-add-out-2
 add-out-2 c = search needs
@@ -78,8 +78,8 @@ add-out-2 c = search needs
 slice-write-out-5 : tie.Need-slice-write-out-5
 slice-write-out-5 c = simp length-set (omega (arith, room-three (c .before .before)))
 
-low-byte-requires-6 : tie.Need-low-byte-requires-6
-low-byte-requires-6 c κs = search needs
+low-requires-6 : tie.Need-low-requires-6
+low-requires-6 c κs = search needs
 
 add-out-3 : tie.Need-add-out-3
 add-out-3 c = search needs
@@ -99,31 +99,31 @@ returns-3 c =
     let b = c .before .before .before in
     let at = b .before .before .before .args .at in
     let e : at + 1 + 1 ≡ at + 2 = omega arith in
-    rw (shortest-three _ (b .if2 .left), c .before .before .low-byte4 .ensures, c .before .low-byte5 .ensures, c .low-byte6 .ensures) (record { place = refl; bytes = rw e })
+    rw (shortest-three _ (b .if2 .left), c .before .before .low4 .ensures, c .before .low5 .ensures, c .low6 .ensures) (record { place = refl; bytes = rw e })
 
 pub put-shortest-spec : {M : Type 1} → statement M
 put-shortest-spec =
     tie.close
     (tie.spec
-    low-byte-requires
+    low-requires
     slice-write-out
     add-result
     same-length
     returns
-    low-byte-requires-2
+    low-requires-2
     slice-write-out-2
-    low-byte-requires-3
+    low-requires-3
     add-out
     slice-write-out-3
     add-result-2
     same-length-2
     returns-2
-    low-byte-requires-4
+    low-requires-4
     slice-write-out-4
-    low-byte-requires-5
+    low-requires-5
     add-out-2
     slice-write-out-5
-    low-byte-requires-6
+    low-requires-6
     add-out-3
     slice-write-out-6
     add-result-3

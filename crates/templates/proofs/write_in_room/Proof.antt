@@ -7,10 +7,11 @@ use native.Mathlib.Omega.{arith}
 use borrow.Author.Needs.{needs}
 use borrow.Author.Tests.{le-leb, lt-leb}
 use lib.ListN.{length, length-append}
+use Rattle.formats.specs.Lent.{writing}
 use Rattle.templates.specs.declared.Written.the-variants.{Done}
 use Rattle.templates.specs.Template.{encodeDescribed, encodeLimited, encode}
 use Rattle.templates.specs.Reading.{saying}
-use Rattle.templates.specs.Writing.{writing, inRoom}
+use Rattle.templates.specs.Writing.{inRoom}
 use Rattle.templates.proofs.Laying.{template-length, put-first}
 use Rattle.templates.proofs.write_in_room.Statement.{statement}
 use Rattle.templates.proofs.write_in_room.Tie as tie

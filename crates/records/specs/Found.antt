@@ -38,7 +38,7 @@ times-length r s (suc n) at e =
     let p = parts s (readAt r s at) (readAt (times n r) s) (sym (at-times s at n r) ∙ e) in
     ap length (p .whole) ∙ ap suc (times-length r s n (p .place) (p .second))
 
--- extended extra that are present end where their bytes do, behind a length of two bytes; absent ones have no bytes
+-- extended data that are present end where their bytes do, behind a length of two bytes; absent ones have no bytes
 pub record Ends (s : List ℕ) (announced : Bool) (at : ℕ) (extra : Option (List ℕ)) (end : ℕ) : Type 0 where
   pub presence : present extra ≡ announced
   pub start : announced ≡ true → at + 2 + length (extendedBytes extra) ≡ end
@@ -74,7 +74,7 @@ extension-ends s false at {extra} {end} h e =
 
 -- ---- The layout of a record
 
-pub record Laid (s : List ℕ) (l : Layout) (r : Record) (end : ℕ) : Type 0 where
+pub record LaidOut (s : List ℕ) (l : Layout) (r : Record) (end : ℕ) : Type 0 where
   pub outcome : l .outcome ≡ Done end
   pub description : l .front .description ≡ r .description
   pub count : length (r .points) ≡ l .front .count
@@ -84,7 +84,7 @@ pub record Laid (s : List ℕ) (l : Layout) (r : Record) (end : ℕ) : Type 0 wh
   pub extended-within : (l .extension ≤ end) × (end ≤ length s)
 
 unfoldable pub Found : List ℕ → Answer Record → Layout → Type 0
-Found s (ok r end) l = Laid s l r end
+Found s (ok r end) l = LaidOut s l r end
 Found s short l = l ≡ nowhereLaid Short
 Found s (bad k p) l = l ≡ nowhereLaid (Bad k p)
 
@@ -139,7 +139,7 @@ module _ (s : List ℕ) where
 -- ---- Reading, by how the layout ended
 
 module _ (s : List ℕ) (l : Layout) where
-  whole-of : (x : Answer Record) → run fullRecord s ≡ x → Found s x l → {end : ℕ} → l .outcome ≡ Done end → (r : Record) × (run fullRecord s ≡ ok r end) × Laid s l r end
+  whole-of : (x : Answer Record) → run fullRecord s ≡ x → Found s x l → {end : ℕ} → l .outcome ≡ Done end → (r : Record) × (run fullRecord s ≡ ok r end) × LaidOut s l r end
   unfolding Found
   whole-of (ok r n) q f {end} o =
       let g = f .outcome in
@@ -168,7 +168,7 @@ module _ (s : List ℕ) (l : Layout) (e : l ≡ layoutOf s) where
   of-layout : (x : Answer Record) → run fullRecord s ≡ x → Found s x l
   of-layout x q = rw (← q, e) (found s)
 
-  pub record-laid : {end : ℕ} → l .outcome ≡ Done end → (r : Record) × (run fullRecord s ≡ ok r end) × Laid s l r end
+  pub record-laid : {end : ℕ} → l .outcome ≡ Done end → (r : Record) × (run fullRecord s ≡ ok r end) × LaidOut s l r end
   record-laid o = whole-of s l (run fullRecord s) refl (of-layout (run fullRecord s) refl) o
 
   pub short-laid : l .outcome ≡ Short → (run fullRecord s ≡ short) × (l ≡ nowhereLaid Short)
