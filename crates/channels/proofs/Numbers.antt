@@ -19,7 +19,7 @@ use Rattle.channels.specs.declared.Stored.{Stored}
 use Rattle.channels.specs.declared.Stored.the-variants.{Outside}
 
 -- what holds of both forms of a difference holds of it
-sub-ind : (P : ℤ → Type 0) (a b : ℕ) → (a < b → P (negsuc (b - suc a))) → (b ≤ a → P (pos (a - b))) → P (subℕ a b)
+pub sub-ind : (P : ℤ → Type 0) (a b : ℕ) → (a < b → P (negsuc (b - suc a))) → (b ≤ a → P (pos (a - b))) → P (subℕ a b)
 sub-ind P a b f g = go (ltb a b) refl
   where
     go : (t : Bool) → ltb a b ≡ t → P (subℕ a b)

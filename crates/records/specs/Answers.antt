@@ -13,8 +13,9 @@ use Rattle.formats.specs.Lent.{Writing, writing}
 use Rattle.channels.specs.declared.Description.{Description}
 use Rattle.records.specs.Record.{point, width, fullRecord}
 use Rattle.records.specs.Points.{placesAt}
-use Rattle.records.specs.Write.{writeOf}
-use Rattle.records.specs.Verdict.{judged, judgedWhole, extendedPlace, extendedSize, restPlace, restSize, pointedAt, placesIn}
+use Rattle.records.specs.Write.{numberOf as writtenNumber, writeOf}
+use Rattle.records.specs.Verdict.{numberOf, judged, judgedWhole, extendedPlace, extendedSize, restPlace, restSize, pointedAt, placesIn}
+use Rattle.records.specs.declared.Fault.{Fault}
 use Rattle.records.specs.declared.Written.{Written}
 
 module _ (s : List ℕ) where
@@ -49,3 +50,9 @@ module _ (s r q : RefT (List ℕ)) where
 pub one-written : (d : Description) (count : ℕ) (values : List ℤ) (wanted : Bool) (extended out : List ℕ)
     → OneAnswer (λ (w : Writing Written). writing (w .answer) (w .bytes) ≡ writeOf d count values wanted extended out)
 one-written d count values wanted extended out = named
+
+pub one-fault-number : (fault : Fault) → OneAnswer (λ r. r ≡ numberOf fault)
+one-fault-number fault = named
+
+pub one-written-number : (answer : Written) → OneAnswer (λ r. r ≡ writtenNumber answer)
+one-written-number answer = named

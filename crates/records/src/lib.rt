@@ -29,8 +29,8 @@ ghost use Rattle.records.specs.Record.{sample, point, extension, fullRec
 ghost use Rattle.records.specs.Values.{pointsOf};
 ghost use Rattle.records.specs.Front.{marks, opened, channelled, front};
 ghost use Rattle.records.specs.Layout.{noFront, fronted, nowhereLaid, laidExtension, laidPoints, layoutOf};
-ghost use Rattle.records.specs.Verdict.{faultOf, judged, judgedWhole, extendedPlace, extendedSize, restPlace, restSize, pointedAt, placesIn};
-ghost use Rattle.records.specs.Write.{fitsEach, fitsRow, openingBytes, frontBytes, recordOf, checkValues, check, Passed, writeOf};
+ghost use Rattle.records.specs.Verdict.{numberOf, faultOf, judged, judgedWhole, extendedPlace, extendedSize, restPlace, restSize, pointedAt, placesIn};
+ghost use Rattle.records.specs.Write.{numberOf as writtenNumber, fitsEach, fitsRow, openingBytes, frontBytes, recordOf, checkValues, check, Passed, writeOf};
 ghost use Rattle.records.specs.Points.{sampled, taken, seat, placesAt, switched};
 
 const IDENTIFIER: [u8; 4] = [0x53, 0x44, 0x49, 0x00];
@@ -423,6 +423,22 @@ pub enum Fault {
     LeftOver,
 }
 
+// Document 01's number of a refusal.
+pub fn fault_number(fault: Fault) -> u8
+    ensures { λ r. ⌜ r ≡ numberOf fault ⌝ }
+{
+    match fault {
+        Fault::Identifier => 2,
+        Fault::Version => 3,
+        Fault::XOrY => 4,
+        Fault::ReservedBit => 5,
+        Fault::ReservedByte => 6,
+        Fault::OpeningBits => 7,
+        Fault::Switch => 8,
+        Fault::LeftOver => 9,
+    }
+}
+
 // What is judged of some bytes. Short is refusal 1.
 pub enum Verdict {
     Record {
@@ -617,6 +633,23 @@ pub enum Written {
     ValueRange,
     ExtendedSize,
     Room,
+}
+
+// Document 01's number of such a refusal, and 0 where the record was written.
+pub fn written_number(written: Written) -> u8
+    ensures { λ r. ⌜ r ≡ writtenNumber written ⌝ }
+{
+    match written {
+        Written::Record { length: _ } => 0,
+        Written::XOrY => 4,
+        Written::Untidy => 11,
+        Written::AttributeRange => 12,
+        Written::CountRange => 12,
+        Written::Amount => 13,
+        Written::ValueRange => 12,
+        Written::ExtendedSize => 14,
+        Written::Room => 15,
+    }
 }
 
 // How many numbers a sample point holds.

@@ -12,8 +12,8 @@ ghost use Rattle.formats.specs.Number.{value};
 ghost use Rattle.formats.specs.Laid.{Room, Laid};
 ghost use Rattle.formats.specs.Lent.{writing};
 ghost use Rattle.templates.specs.Template.{fewest, shortest, encodeDescribed, encodeLimited, encode};
-ghost use Rattle.templates.specs.Reading.{saying, accepted, refused, endOf, isShortest, limitedBy, limitedFrom, describedBy, contentOf, templateOf};
-ghost use Rattle.templates.specs.Writing.{flawIf, exceeds, inRoom, writeOf};
+ghost use Rattle.templates.specs.Reading.{numberOf, saying, accepted, refused, endOf, isShortest, limitedBy, limitedFrom, describedBy, contentOf, templateOf};
+ghost use Rattle.templates.specs.Writing.{writtenNumber, flawIf, exceeds, inRoom, writeOf};
 ghost use Rattle.descriptions.specs.declared.Flaw.the-variants as flaw;
 
 // What a template says: a description of channels if it has one, and the largest number of points if it names one.
@@ -41,6 +41,21 @@ pub enum Fault {
     ReservedBit { place: usize },
     // Bytes stand behind the template.
     LeftOver { place: usize },
+}
+
+// Document 01's number of a refusal.
+pub fn fault_number(fault: Fault) -> u8
+    ensures { λ r. ⌜ r ≡ numberOf fault ⌝ }
+{
+    match fault {
+        Fault::Short => 1,
+        Fault::Tag => 16,
+        Fault::Length => 17,
+        Fault::Maximum => 18,
+        Fault::XOrY { place: _ } => 4,
+        Fault::ReservedBit { place: _ } => 5,
+        Fault::LeftOver { place: _ } => 9,
+    }
 }
 
 pub enum Verdict {
@@ -249,6 +264,19 @@ pub enum Written {
     Untidy,
     OutOfRange, // a number of the description, or the maximum
     NoRoom,
+}
+
+// Document 01's number of such a refusal, and 0 where the template was written.
+pub fn written_number(written: Written) -> u8
+    ensures { λ r. ⌜ r ≡ writtenNumber written ⌝ }
+{
+    match written {
+        Written::Done(_) => 0,
+        Written::XOrY => 4,
+        Written::Untidy => 11,
+        Written::OutOfRange => 12,
+        Written::NoRoom => 15,
+    }
 }
 
 // The first flaw of the description, where one is wanted.

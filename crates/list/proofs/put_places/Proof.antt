@@ -1,11 +1,11 @@
--- `list::put_places` is safe and ends. The invariant: there is room for a byte.
-use Prim.Native.Nat.{_≤_, _<_, _-_}
+-- `list::put_places` is safe and ends: each turn takes one place more.
+use Prim.Native.Nat.{_≤_, _-_}
 use borrow.Author.Needs.{needs}
 use Rattle.list.proofs.put_places.Statement.{statement}
 use Rattle.list.proofs.put_places.Tie as tie
 
 abbrev Inv-loop : tie.InvT-loop
-Inv-loop text₀ start places used₀ channel₀ text used channel = (used < 65536) × (channel ≤ 16)
+Inv-loop text₀ start places used₀ channel₀ text used channel = channel ≤ 16
 
 abbrev μ-loop : tie.MeasureT-loop
 μ-loop text₀ start places used₀ channel₀ text used channel = 16 - channel

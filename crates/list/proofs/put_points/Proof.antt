@@ -1,4 +1,4 @@
--- `list::put_points` is safe and ends. The invariant: there is room for a byte, and each point passed had at most 32 bytes.
+-- `list::put_points` is safe and ends. The invariant: each point passed had at most 32 bytes.
 use mathlib.Core.Path.{_≡_}
 use Prim.Native.Nat.{ℕ, _≤_, _<_, _+_, _-_, _*_}
 use native.Mathlib.Omega.{arith}
@@ -13,7 +13,7 @@ use Rattle.list.proofs.put_points.Statement.{statement}
 use Rattle.list.proofs.put_points.Tie as tie
 
 abbrev Inv-loop : tie.InvT-loop
-Inv-loop text₀ start file place count description width used₀ at₀ index₀ text used at index = (used < 65536) × (width < 33) × (at ≤ 65727 + 32 * index)
+Inv-loop text₀ start file place count description width used₀ at₀ index₀ text used at index = (width < 33) × (at ≤ 65727 + 32 * index)
 
 abbrev μ-loop : tie.MeasureT-loop
 μ-loop text₀ start file place count description width used₀ at₀ index₀ text used at index = count - index
@@ -45,13 +45,10 @@ add-at-2 : tie.Need-add-at-2 Inv-loop μ-loop
 add-at-2 c = record { fits = omega (arith, size-small _ _ (c .size .ensures)) }
 
 loop-holds : tie.Need-loop-holds Inv-loop μ-loop
-loop-holds c = (omega arith, omega arith, omega (arith, size-small _ _ (c .size .ensures)))
+loop-holds c = (omega arith, omega (arith, size-small _ _ (c .size .ensures)))
 
 point-at-requires : tie.Need-point-at-requires Inv-loop μ-loop
 point-at-requires c κs = search needs
-
-cast-put-point : tie.Need-cast-put-point Inv-loop μ-loop
-cast-put-point c = search needs
 
 put-point-requires : tie.Need-put-point-requires Inv-loop μ-loop
 put-point-requires c κs = search needs
@@ -86,7 +83,6 @@ put-points-spec =
     add-at-2
     loop-holds
     point-at-requires
-    cast-put-point
     put-point-requires
     add-at-3
     add-index

@@ -1,8 +1,8 @@
--- `list::number_of` meets its contract: each refusal has document 01's number.
-use Rattle.records.specs.Verdict.{numberOf}
+-- `templates::fault_number` meets its contract: each refusal has document 01's number.
+use Rattle.templates.specs.Reading.{numberOf}
 use borrow.Author.Needs.{needs}
-use Rattle.list.proofs.number_of.Statement.{statement}
-use Rattle.list.proofs.number_of.Tie as tie
+use Rattle.templates.proofs.fault_number.Statement.{statement}
+use Rattle.templates.proofs.fault_number.Tie as tie
 
 enum-told : tie.Need-enum-told
 enum-told c = search needs
@@ -24,9 +24,6 @@ enum-told-6 c = search needs
 
 enum-told-7 : tie.Need-enum-told-7
 enum-told-7 c = search needs
-
-enum-told-8 : tie.Need-enum-told-8
-enum-told-8 c = search needs
 
 returns : tie.Need-returns
 unfolding numberOf
@@ -56,12 +53,8 @@ returns-7 : tie.Need-returns-7
 unfolding numberOf
 returns-7 c = rw (c .enum-told7 .given .1)
 
-returns-8 : tie.Need-returns-8
-unfolding numberOf
-returns-8 c = rw (c .enum-told8 .given .1)
-
-pub number-of-spec : {M : Type 1} → statement M
-number-of-spec =
+pub fault-number-spec : {M : Type 1} → statement M
+fault-number-spec =
     tie.close
     (tie.spec
     enum-told
@@ -71,12 +64,10 @@ number-of-spec =
     enum-told-5
     enum-told-6
     enum-told-7
-    enum-told-8
     returns
     returns-2
     returns-3
     returns-4
     returns-5
     returns-6
-    returns-7
-    returns-8)
+    returns-7)

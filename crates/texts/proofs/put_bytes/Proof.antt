@@ -1,12 +1,12 @@
--- `list::put_bytes` is safe and ends. The invariant: there is room for a byte.
+-- `texts::put_bytes` is safe and ends: each turn takes one byte more.
 use Prim.Native.Nat.{_≤_, _<_, _-_}
 use lib.ListN.{length}
 use borrow.Author.Needs.{needs}
-use Rattle.list.proofs.put_bytes.Statement.{statement}
-use Rattle.list.proofs.put_bytes.Tie as tie
+use Rattle.texts.proofs.put_bytes.Statement.{statement}
+use Rattle.texts.proofs.put_bytes.Tie as tie
 
 abbrev Inv-loop : tie.InvT-loop
-Inv-loop text₀ start bytes used₀ i₀ text used i = (used < 65536) × (i ≤ length bytes)
+Inv-loop text₀ start bytes used₀ i₀ text used i = i ≤ length bytes
 
 abbrev μ-loop : tie.MeasureT-loop
 μ-loop text₀ start bytes used₀ i₀ text used i = length bytes - i

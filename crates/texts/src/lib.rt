@@ -1,0 +1,108 @@
+// Text that a program gathers and writes out: bytes, numbers in decimal, bytes in hex.
+// Each function takes the text and how many bytes are gathered, and answers how many are gathered then.
+// Sixteen bits count them, so that there is always room for one more.
+ghost use mathlib.Core.Path.{_≡_};
+ghost use lib.IntN.{natAbs};
+
+// A byte joins the text, which is written out when it has filled its array.
+pub fn put(text: &mut [u8; 65536], used: u16, byte: u8) -> u16 {
+    let at = used as usize;
+    text[at] = byte;
+    if used == 65535 {
+        io::write_all(1, text);
+        return 0;
+    }
+    used + 1
+}
+
+pub fn put_bytes(text: &mut [u8; 65536], start: u16, bytes: &[u8]) -> u16 {
+    let mut used = start;
+    let mut i: usize = 0;
+    while i < bytes.len() {
+        used = put(text, used, bytes[i]);
+        i += 1;
+    }
+    used
+}
+
+pub fn put_number(text: &mut [u8; 65536], used: u16, number: u64) -> u16 {
+    let mut digits = [0; 20];
+    let n = io::decimal(number, &mut digits);
+    put_bytes(text, used, &digits[..n])
+}
+
+// A number as a field of a line: a space stands before it.
+pub fn put_field(text: &mut [u8; 65536], start: u16, number: u64) -> u16 {
+    let used = put(text, start, b' ');
+    put_number(text, used, number)
+}
+
+// A number without its sign. The smallest of 64 bits has its magnitude in no signed number.
+fn magnitude(value: i64) -> u64
+    ensures { λ r. ⌜ r ≡ natAbs value ⌝ }
+{
+    if value < 0 {
+        if value < -9223372036854775807 {
+            return 9223372036854775808;
+        }
+        return (0 - value) as u64;
+    }
+    value as u64
+}
+
+pub fn put_long(text: &mut [u8; 65536], start: u16, value: i64) -> u16 {
+    let mut used = start;
+    if value < 0 {
+        used = put(text, used, b'-');
+    }
+    put_number(text, used, magnitude(value))
+}
+
+pub fn put_value(text: &mut [u8; 65536], used: u16, value: i32) -> u16 {
+    put_long(text, used, value as i64)
+}
+
+// The hex digit of a number below 16, in a capital letter.
+fn hex_digit(number: u8) -> u8 {
+    match number {
+        0 => b'0',
+        1 => b'1',
+        2 => b'2',
+        3 => b'3',
+        4 => b'4',
+        5 => b'5',
+        6 => b'6',
+        7 => b'7',
+        8 => b'8',
+        9 => b'9',
+        10 => b'A',
+        11 => b'B',
+        12 => b'C',
+        13 => b'D',
+        14 => b'E',
+        _ => b'F',
+    }
+}
+
+// Bytes as pairs of hex digits, or `-` where there are none.
+pub fn put_hex(text: &mut [u8; 65536], start: u16, bytes: &[u8]) -> u16 {
+    if bytes.len() == 0 {
+        return put(text, start, b'-');
+    }
+    let mut used = start;
+    let mut i: usize = 0;
+    while i < bytes.len() {
+        let byte = bytes[i];
+        used = put(text, used, hex_digit(byte / 16));
+        used = put(text, used, hex_digit(byte % 16));
+        i += 1;
+    }
+    used
+}
+
+// What is gathered is written out.
+pub fn write_out(text: &[u8; 65536], used: u16) {
+    let bytes: &[u8] = text;
+    let end = used as usize;
+    io::write_all(1, &bytes[0..end]);
+}
