@@ -169,7 +169,7 @@ table =
 pub examples : map (λ e. answered (e .question)) table ≡ map (λ e. e .answer) table
 unfolding answered saidOf run next bind reader.map each times one free literal number valueOf offset signedOf attribute descriptor includes channelOf description
     storedFrom stored stateOf sample point extension fullRecord placesOf places
-    numberOf faultOf present judged judgedWhole numbered pointedAt placesIn
-    numbers.value nothing templateNumber templates.numberOf withContent isShortest atEnd limitedBy limitedFrom filling describedBy contentOf lengthAndContent templateOf
+    faultOf present judged judgedWhole numbered pointedAt placesIn
+    numbers.value nothing templateNumber withContent isShortest atEnd limitedBy limitedFrom filling describedBy contentOf lengthAndContent templateOf
     nearest thousandths defined reading
 examples = refl

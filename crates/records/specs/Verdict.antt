@@ -21,7 +21,7 @@ use Rattle.records.specs.declared.Pointed.{Pointed}
 use Rattle.records.specs.declared.Pointed.the-variants as pointed
 
 -- the number of each refusal; short is 1, and no such point is 10
-unfoldable pub numberOf : Fault → ℕ
+abbrev pub numberOf : Fault → ℕ
 numberOf Identifier = 2
 numberOf Version = 3
 numberOf XOrY = 4

@@ -21,7 +21,7 @@ use Rattle.records.specs.declared.Written.{Written}
 use Rattle.records.specs.declared.Written.the-variants as written
 
 -- document 01's number of each refusal, and 0 for a record
-unfoldable pub numberOf : Written → ℕ
+abbrev pub numberOf : Written → ℕ
 numberOf (written.Record n) = 0
 numberOf written.XOrY = 4
 numberOf written.Untidy = 11

@@ -21,7 +21,7 @@ use Rattle.templates.specs.declared.End.the-variants.{At, Missing}
 -- ---- Answers
 
 -- the number of a refusal in document 01, and the place where it names one
-unfoldable pub numberOf : Fault → ℕ
+abbrev pub numberOf : Fault → ℕ
 numberOf Short = 1
 numberOf Tag = 16
 numberOf Length = 17

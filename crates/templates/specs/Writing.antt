@@ -15,7 +15,7 @@ use Rattle.templates.specs.Template.{encode}
 use Rattle.templates.specs.Reading.{saying}
 
 -- the number of a refusal in document 01, and 0 for a template
-unfoldable pub writtenNumber : Written → ℕ
+abbrev pub writtenNumber : Written → ℕ
 writtenNumber (Done n) = 0
 writtenNumber XOrY = 4
 writtenNumber Untidy = 11

@@ -1,0 +1,187 @@
+//! The answer that `ask` should give to a line.
+
+use crate::description::words as channel_words;
+use crate::record::{self, Record, Step};
+use crate::refusal::Refusal;
+use crate::template::{self, Template};
+use crate::thousandths::{of_place, thousandths, Reading};
+use crate::words::{self, Read, Words};
+use crate::writing::{self, Parts};
+
+pub const LONGEST_LINE: usize = 262_144;
+
+/// The answers to a whole input: one for each line, the last perhaps without a line feed.
+pub fn all(input: &[u8]) -> Vec<String> {
+    let mut lines: Vec<&[u8]> = input.split(|byte| *byte == b'\n').collect();
+    // Behind the last line feed there is a line only if it has bytes.
+    if lines.last().is_some_and(|last| last.is_empty()) {
+        lines.pop();
+    }
+    lines.into_iter().map(answer).collect()
+}
+
+pub fn answer(line: &[u8]) -> String {
+    match read(line) {
+        Ok(answer) => answer,
+        Err(why) => format!("cannot read: {why}"),
+    }
+}
+
+fn read(line: &[u8]) -> Read<String> {
+    if line.len() > LONGEST_LINE {
+        return Err(words::LONG_LINE);
+    }
+    let mut words = Words::new(line);
+    let question = words.next().unwrap_or(b"");
+    match question {
+        b"judge" => Ok(verdict(record::judge(&words.bytes()?))),
+        b"whole" => Ok(verdict(record::whole(&words.bytes()?))),
+        b"extended" => Ok(format!("bytes {}", hex(record::extended(&words.bytes()?)))),
+        b"rest" => Ok(format!("bytes {}", hex(record::rest(&words.bytes()?)))),
+        b"point" => point(&mut words),
+        b"write" => write(&mut words),
+        b"step" => step(&mut words),
+        b"template" => Ok(template(&words.bytes()?)),
+        b"write-template" => write_template(&mut words),
+        b"thousandths" => of_numbers(&mut words),
+        b"place" => place(&mut words),
+        _ => Err(words::NO_QUESTION),
+    }
+}
+
+/// HEX in capital letters, `-` for no bytes.
+pub fn hex(bytes: &[u8]) -> String {
+    if bytes.is_empty() {
+        return "-".to_string();
+    }
+    digits(bytes)
+}
+
+/// Pairs of hex digits; nothing for no bytes.
+pub fn digits(bytes: &[u8]) -> String {
+    let digit = |number: u8| char::from(b"0123456789ABCDEF"[usize::from(number)]);
+    bytes
+        .iter()
+        .flat_map(|byte| [digit(byte >> 4), digit(byte & 15)])
+        .collect()
+}
+
+fn verdict(judged: Result<Record, Refusal>) -> String {
+    match judged {
+        Ok(record) => {
+            let said = channel_words(&record.description);
+            format!(
+                "record {} {} {}{said}",
+                record.length,
+                record.count,
+                record.presence()
+            )
+        }
+        Err(refusal) => refusal.text(),
+    }
+}
+
+fn point(words: &mut Words) -> Read<String> {
+    let index = words.number(words::NOT_NEGATIVE)?;
+    Ok(match record::point(&words.bytes()?, index) {
+        Ok(places) => {
+            let places: String = places.map(|place| format!(" {}", place.text())).concat();
+            format!("point{places}")
+        }
+        Err(refusal) => refusal.text(),
+    })
+}
+
+fn write(words: &mut Words) -> Read<String> {
+    let count = words.number(words::NOT_NEGATIVE)?;
+    let values = words::values(words.next()?).ok_or(words::NOT_NUMBER)?;
+    let extended = words::wanted(words.next()?, words::hex).ok_or(words::NOT_BYTES)?;
+    let room = words.number(words::ROOM)? as usize;
+    let description = words.channels()?;
+    let parts = Parts {
+        description,
+        count,
+        values,
+        extended,
+    };
+    Ok(written(writing::write(&parts, room), room))
+}
+
+/// Every byte of the room was AA before, and those not written are so still.
+fn written(result: Result<Vec<u8>, u8>, room: usize) -> String {
+    let mut output = vec![0xAA; room];
+    match result {
+        Ok(bytes) => {
+            output.splice(..bytes.len().min(room), bytes.iter().copied());
+            format!("written {} {}", bytes.len(), hex(&output))
+        }
+        Err(number) => format!("refused {number} {}", hex(&output)),
+    }
+}
+
+fn step(words: &mut Words) -> Read<String> {
+    let place = words.number(words::NOT_NEGATIVE)? as usize;
+    let file = words.bytes()?;
+    Ok(match record::step(&file, place) {
+        Step::End => format!("end next {place}"),
+        Step::Refused(refusal) => format!("{} next {place}", refusal.text()),
+        Step::Record(record) => {
+            let (length, presence) = (record.length, record.presence());
+            format!(
+                "record {length} {} {presence} next {}",
+                record.count,
+                place + length
+            )
+        }
+    })
+}
+
+fn template(bytes: &[u8]) -> String {
+    match template::read(bytes) {
+        Ok(Template {
+            description,
+            maximum,
+        }) => {
+            let maximum = maximum.map_or("!".to_string(), |maximum| maximum.to_string());
+            let said = description.map_or(" !".to_string(), |said| channel_words(&said));
+            format!("template {maximum}{said}")
+        }
+        Err(refusal) => refusal.text(),
+    }
+}
+
+fn write_template(words: &mut Words) -> Read<String> {
+    let maximum = |word: &[u8]| words::number(word, words::MAXIMUM);
+    let maximum = words::wanted(words.next()?, maximum).ok_or(words::NOT_NUMBER)?;
+    let room = words.number(words::ROOM)? as usize;
+    let wanted = !words.none_wanted();
+    let description = Some(words.channels()?).filter(|_| wanted);
+    let template = Template {
+        description,
+        maximum,
+    };
+    Ok(written(template::write(&template, room), room))
+}
+
+fn of_numbers(words: &mut Words) -> Read<String> {
+    let raw = words.number(words::ANY)?;
+    let e = words.number(words::NOT_NEGATIVE)?;
+    let f = words.number(words::NOT_NEGATIVE)?;
+    words.end()?;
+    Ok(match thousandths(raw, e, f) {
+        Some(number) => format!("thousandths {number}"),
+        None => "refused 12".to_string(),
+    })
+}
+
+fn place(words: &mut Words) -> Read<String> {
+    let place = words::place(words.next()?).ok_or(words::NOT_PLACE)?;
+    let scaling = |word: &[u8]| words::number(word, words::OF_A_CHANNEL);
+    let scaling = words::wanted(words.next()?, scaling).ok_or(words::NOT_NUMBER)?;
+    words.end()?;
+    Ok(match of_place(place, scaling) {
+        Reading::Absent => "absent".to_string(),
+        Reading::Thousandths(number) => format!("thousandths {number}"),
+        Reading::Refused => "refused 12".to_string(),
+    })
+}

@@ -1,0 +1,265 @@
+//! Lines that cannot be read, lines spelled oddly, and the ends of lines and inputs.
+
+use crate::answers::LONGEST_LINE;
+use crate::compare::Comparison;
+use crate::examples::UNREADABLE;
+use crate::inputs;
+use crate::questions;
+use crate::random::Random;
+use crate::template::Template;
+
+const TYPED: &str = "lines that cannot be read, typed from the paper";
+const CHANGED: &str = "lines with something changed";
+const SPELLED: &str = "lines spelled oddly";
+const INPUTS: &str = "whole inputs: long lines, last lines, empty lines";
+
+pub fn ask_all(comparison: &mut Comparison, random: &mut Random) {
+    for (line, answer) in UNREADABLE {
+        comparison.ask_typed(TYPED, line, answer);
+    }
+    limits(comparison);
+    spelled(comparison, random);
+    changed(comparison, random);
+    whole_inputs(comparison);
+    random_inputs(comparison, random);
+}
+
+/// The longest line and one longer, and the greatest room.
+fn limits(comparison: &mut Comparison) {
+    let long = "cannot read: a line has at most 262144 bytes";
+    for (length, answer) in [(262_144, "absent"), (262_145, long)] {
+        let line = format!("place . !{}", " ".repeat(length - 9));
+        comparison.ask_typed(TYPED, &line, answer);
+    }
+    let untouched = "AA".repeat(131_070);
+    let answer = format!("refused 4 {untouched}AAAA");
+    comparison.ask_typed(TYPED, "write 0 - ! 131072", &answer);
+    let answer = format!("written 2 B100{untouched}");
+    comparison.ask_typed(TYPED, "write-template ! 131072 !", &answer);
+}
+
+/// A short question of any of the eleven sorts.
+fn any_question(random: &mut Random) -> String {
+    let parts = inputs::small_parts(random);
+    let bytes = inputs::bytes(&parts);
+    let template = inputs::template(random);
+    let room = random.below(40);
+    let index = random.between(0, 3);
+    match random.below(12) {
+        0 => questions::of_bytes("judge", &bytes),
+        1 => questions::of_bytes("whole", &bytes),
+        2 => questions::of_bytes("extended", &bytes),
+        3 => questions::of_bytes("rest", &bytes),
+        4 => questions::point(index, &bytes),
+        5 => questions::step(index as usize, &bytes),
+        6 => questions::of_bytes("template", &inputs::template_bytes(&template)),
+        7 | 8 => questions::write(&parts, bytes.len()),
+        9 => questions::write_template(&template, room),
+        10 => format!(
+            "thousandths {} {} {}",
+            index * 1000 - 1500,
+            room,
+            index * 500
+        ),
+        _ => any_place(random, template),
+    }
+}
+
+fn any_place(random: &mut Random, template: Template) -> String {
+    let number = random.between(-5, 70000).to_string();
+    let place = random.pick(&[".", "-", "5", "-7", &number]).to_string();
+    let scaling = template
+        .maximum
+        .map_or("!".to_string(), |maximum| maximum.to_string());
+    format!("place {place} {scaling}")
+}
+
+/// The same words apart by other blanks, and hex digits in either case.
+fn spelled(comparison: &mut Comparison, random: &mut Random) {
+    for _ in 0..comparison.amount(3000) {
+        let line = any_question(random);
+        let mut odd: Vec<u8> = blanks(random, 0).into();
+        for word in line.split(' ') {
+            odd.extend(spell_word(random, word));
+            odd.extend(blanks(random, 1).bytes());
+        }
+        comparison.ask(SPELLED, odd);
+    }
+}
+
+fn blanks(random: &mut Random, least: usize) -> String {
+    let amount = least + if random.one_in(3) { random.below(3) } else { 0 };
+    (0..amount)
+        .map(|_| random.pick(&[' ', ' ', ' ', '\t', '\r']))
+        .collect()
+}
+
+/// Long runs of hex digits get spaces between pairs; any hex digit may be small.
+fn spell_word(random: &mut Random, word: &str) -> Vec<u8> {
+    let is_hex = word.len() > 12 && word.bytes().all(|byte| byte.is_ascii_hexdigit());
+    if !is_hex {
+        return word.into();
+    }
+    let mut spelled = Vec::new();
+    for pair in word.as_bytes().chunks(2) {
+        let mut pair = pair.to_vec();
+        if random.one_in(2) {
+            pair.make_ascii_lowercase();
+        }
+        spelled.extend(pair);
+        if random.one_in(3) {
+            spelled.extend(blanks(random, 1).bytes());
+        }
+    }
+    spelled
+}
+
+/// A line with one to three changes of letters or words.
+fn changed(comparison: &mut Comparison, random: &mut Random) {
+    for _ in 0..comparison.amount(14000) {
+        let mut line = any_question(random).into_bytes();
+        for _ in 0..1 + random.below(3) {
+            if random.one_in(3) {
+                change_words(random, &mut line);
+            } else {
+                change_letter(random, &mut line);
+            }
+        }
+        comparison.ask(CHANGED, line);
+    }
+}
+
+/// Letters that mean something in a question, and some that mean nothing; no line feed.
+const LETTERS: &[u8] = b"  \t\r!!--,..==+0123456789aAbfFgGXYZTVSRxmn_#\x00\x0B\x0C\x7F\x80\xFF";
+
+fn change_letter(random: &mut Random, line: &mut Vec<u8>) {
+    let letter = random.pick(LETTERS);
+    let place = place_of_change(random, line);
+    match random.below(4) {
+        0 if place < line.len() => line[place] = letter,
+        1 if place < line.len() => {
+            line.remove(place);
+        }
+        2 => line.truncate(place),
+        _ => line.insert(place.min(line.len()), letter),
+    }
+}
+
+/// Seldom in the question's own word; often near it, where the words differ.
+fn place_of_change(random: &mut Random, line: &[u8]) -> usize {
+    let own = line.iter().position(|byte| *byte == b' ').unwrap_or(0);
+    let first = if random.one_in(8) { 0 } else { own };
+    let behind = line.len() - first;
+    let most = if random.one_in(2) {
+        behind.min(16)
+    } else {
+        behind
+    };
+    first + random.below(most)
+}
+
+/// Words that can stand somewhere.
+const WORDS: &str = "! - . 0 -1 -0 1 131072 131073 4294967296 2147483648 X !X Az.constant \
+    !Y.mean=3 X.!mean=5 X.!constant X.mean=5.mean=6 R.deviation=-1 S.removed.constant \
+    X.scaling=65536 00 B1 !00 !- judge place 1,2 000000000000000001";
+
+/// A word put in, left out, doubled or exchanged for another.
+fn change_words(random: &mut Random, line: &mut Vec<u8>) {
+    let mut words: Vec<Vec<u8>> = line
+        .split(|byte| *byte == b' ')
+        .map(<[u8]>::to_vec)
+        .collect();
+    let first = usize::from(words.len() > 1 && !random.one_in(8));
+    let place = first + random.below(words.len() - first);
+    let others: Vec<&str> = WORDS.split_whitespace().collect();
+    let other = random.pick(&others).as_bytes().to_vec();
+    match random.below(4) {
+        0 => words.insert(place, other),
+        1 => {
+            words.remove(place);
+        }
+        2 => {
+            let double = words[place].clone();
+            words.insert(place, double);
+        }
+        _ => words[place] = other,
+    }
+    *line = words.join(&b' ');
+}
+
+/// Empty lines, blanks, carriage returns, and last lines without a line feed.
+const SHORT_INPUTS: &[&str] = &[
+    "",
+    "\n",
+    "\n\n\n",
+    " ",
+    "\r\n",
+    "judge",
+    "judge 53 45",
+    "judge 53 45\n\njudge",
+    "judge 53 45\r\nrest\r\n",
+    "\tjudge\t53\t45\r",
+    "no\n\njudge 53 45\n ",
+    "place . !",
+];
+
+/// Each of these goes to a process of its own.
+fn whole_inputs(comparison: &mut Comparison) {
+    for input in SHORT_INPUTS {
+        comparison.ask_input(INPUTS, input.as_bytes().to_vec());
+    }
+    let most = LONGEST_LINE;
+    for length in [
+        65536,
+        65537,
+        most - 2,
+        most - 1,
+        most,
+        most + 1,
+        most + 2,
+        2 * most + 1,
+        1_000_000,
+    ] {
+        for (front, filling) in [
+            ("judge ", b'5'),
+            ("judge 53", b' '),
+            ("place . !", b'\r'),
+            ("", b' '),
+        ] {
+            long_line(comparison, front, filling, length);
+        }
+    }
+}
+
+/// A line filled up to a length: last of its input, and with lines before and behind.
+fn long_line(comparison: &mut Comparison, front: &str, filling: u8, length: usize) {
+    let mut line = front.as_bytes().to_vec();
+    line.resize(length, filling);
+    let next: &[u8] = b"\njudge 53 45\n";
+    comparison.ask_input(INPUTS, [&line[..], next].concat());
+    comparison.ask_input(INPUTS, [next, &line, next, &line, next].concat());
+    comparison.ask_input(INPUTS, line);
+}
+
+/// Several lines, some long, the last perhaps without a line feed.
+fn random_inputs(comparison: &mut Comparison, random: &mut Random) {
+    for _ in 0..comparison.amount(60) {
+        let mut input = Vec::new();
+        for _ in 0..random.below(30) {
+            if random.one_in(12) {
+                let length = LONGEST_LINE - 6 + random.below(12);
+                let line = any_question(random).into_bytes();
+                let mut long = line;
+                long.resize(length, b' ');
+                input.extend(long);
+            } else if !random.one_in(8) {
+                input.extend(any_question(random).bytes());
+            }
+            input.extend(random.pick(&["\n", "\n", "\r\n", " \n", "\n\n"]).bytes());
+        }
+        if random.one_in(2) {
+            input.extend(any_question(random).bytes());
+        }
+        comparison.ask_input(INPUTS, input);
+    }
+}

@@ -1,0 +1,445 @@
+//! Examples with answers typed from the papers, never worked out here.
+
+use crate::compare::Comparison;
+
+const SCOPE: &str = "examples of document 01";
+const ASK: &str = "examples of the paper on ask";
+const ANNEX: &str = "examples of annex C";
+
+/// M of document 01: a record with no points.
+const M: &[u8] = &[
+    0x53, 0x44, 0x49, 0x00, 0x20, 0x31, 0x30, 0x00, 0xC0, 0x00, 0x00, 0x00, 0x00, 0x00, 0x00, 0x00,
+    0x00,
+];
+/// P8: M with the last byte 01, then 7F FF 80 00.
+const P8: &[u8] = &[
+    0x53, 0x44, 0x49, 0x00, 0x20, 0x31, 0x30, 0x00, 0xC0, 0x00, 0x00, 0x00, 0x00, 0x00, 0x00, 0x00,
+    0x01, 0x7F, 0xFF, 0x80, 0x00,
+];
+
+pub fn ask_all(comparison: &mut Comparison) {
+    for (kind, examples) in [
+        (SCOPE, SCOPE_EXAMPLES),
+        (ASK, ASK_EXAMPLES),
+        (ANNEX, ANNEX_EXAMPLES),
+    ] {
+        for (line, answer) in examples {
+            comparison.ask_typed(kind, line, answer);
+        }
+    }
+    whole_annex_record(comparison);
+    listings(comparison);
+}
+
+type Typed = &'static [(&'static str, &'static str)];
+
+/// P1 to P12, then those 'run and compared'.
+const SCOPE_EXAMPLES: Typed = &[
+    (
+        "judge 53 44 49 00 20 31 30 00 C0 00 00 00 00 00 00 00 00",
+        "record 17 0 plain X Y",
+    ),
+    (
+        "whole 53 44 49 00 20 31 30 00 C0 00 00 00 00 00 00 00 00",
+        "record 17 0 plain X Y",
+    ),
+    (
+        "judge 53 44 49 00 20 31 30 00 C0 00 00 00 00 00 00 00",
+        "refused 1",
+    ),
+    (
+        "whole 53 44 49 00 20 31 30 00 C0 00 00 00 00 00 00 00",
+        "refused 1",
+    ),
+    ("judge", "refused 1"),
+    ("whole", "refused 1"),
+    ("judge 53 45", "refused 2 1"),
+    ("whole 53 45", "refused 2 1"),
+    (
+        "judge 53 44 49 00 20 31 30 00 40 00 00 00 00 00 00 00 00",
+        "refused 4 8",
+    ),
+    (
+        "judge 53 44 49 00 20 31 30 00 C0 00 01 00 00 00 00 00 00",
+        "refused 5 10",
+    ),
+    (
+        "judge 53 44 49 00 20 31 30 00 C0 00 00 00 00 01 00 00 00",
+        "refused 7 13",
+    ),
+    (
+        "judge 53 44 49 00 20 31 30 00 C0 00 00 00 00 00 00 00 01 7F FF 80 00",
+        "record 21 1 plain X Y",
+    ),
+    (
+        "point 0 53 44 49 00 20 31 30 00 C0 00 00 00 00 00 00 00 01 7F FF 80 00",
+        "point -1 0 . . . . . . . . . . . . . .",
+    ),
+    (
+        "judge 53 44 49 00 20 31 30 00 C0 00 04 00 00 00 00 00 01 80 05",
+        "record 19 1 plain X.constant Y",
+    ),
+    (
+        "point 0 53 44 49 00 20 31 30 00 C0 00 04 00 00 00 00 00 01 80 05",
+        "point - 5 . . . . . . . . . . . . . .",
+    ),
+    ("template B1 03 82 01 64", "template 100 !"),
+    ("template B1 04 82 02 00 64", "refused 18"),
+    ("thousandths 1 26 1952", "thousandths 1"),
+    ("thousandths -1 26 1952", "thousandths -1"),
+    ("thousandths 3 26 1952", "thousandths 2"),
+    (
+        "judge 53 44 49 00 20 31 30 00 C0 00 04 04 00 00 FF FF FF",
+        "record 17 16777215 plain X.constant Y.constant",
+    ),
+    ("template B1 00", "template ! !"),
+    ("template B1 06 81 04 C0 00 00 00", "template ! X Y"),
+    ("thousandths 3199 22 1151", "thousandths 32000"),
+    ("thousandths 512 26 0", "thousandths 500"),
+    ("thousandths 65535 0 0", "thousandths 4294901760000"),
+    ("thousandths -32768 31 2047", "thousandths -500"),
+    ("thousandths 65536 16 0", "refused 12"),
+    // The slips of document 01: 7F FF in X, a constant channel without bytes, the deviation
+    // of X without an offset, and a fifth byte that already decides.
+    ("judge 53 44 49 00 21", "refused 3 4"),
+    (
+        "judge 53 44 49 00 20 31 30 00 C0 00 08 00 00 00 00 00 00 00 00",
+        "record 19 0 plain X.deviation=0 Y",
+    ),
+];
+
+const ASK_EXAMPLES: Typed = &[
+    (
+        "judge 53444900 20313000 C000 00 04 00 00 000001 8005",
+        "record 19 1 plain X Y.constant",
+    ),
+    (
+        "whole 53444900 20313000 C000 00 00 00 00 000000 FF",
+        "refused 9 17",
+    ),
+    (
+        "extended 53444900 20313000 C000 00 00 00 80 000000 0002 ABCD",
+        "bytes ABCD",
+    ),
+    (
+        "rest 53444900 20313000 C000 00 00 00 00 000000 FF",
+        "bytes FF",
+    ),
+    (
+        "point 0 53444900 20313000 C000 00 00 00 00 000001 7FFF 8000",
+        "point -1 0 . . . . . . . . . . . . . .",
+    ),
+    (
+        "write 1 -1,0 ! 23 X Y",
+        "written 21 5344490020313000C000000000000000017FFF8000AAAA",
+    ),
+    (
+        "step 17 53444900 20313000 C000 00 00 00 00 000000 53",
+        "refused 1 next 17",
+    ),
+    ("template B1 03 82 01 64", "template 100 !"),
+    ("write-template 100 5 !", "written 5 B103820164"),
+    ("thousandths 3 26 1952", "thousandths 2"),
+    ("place - 55200", "thousandths 1"),
+    ("judge 53 45", "refused 2 1"),
+];
+
+/// C.1 has F before DT; read by the clause its bytes give DT the range and F the scale
+/// (notes A12). Only three of its 475 points are printed, so the count is also made 3.
+const ANNEX_EXAMPLES: Typed = &[
+    (
+        "judge 53444900 20313000 C0C0 80F998 80F998 6000000300 84B480 00 00 0001DB \
+         82078BCB003F 82098BCB0135 820F8BE8013C",
+        "refused 1",
+    ),
+    (
+        "whole 53444900 20313000 C0C0 80F998 80F998 6000000300 84B480 00 00 000003 \
+         82078BCB003F 82098BCB0135 820F8BE8013C",
+        "record 47 3 plain X.scaling=63896 Y.scaling=63896 DT.minimum=0.maximum=768 F.scaling=46208.constant",
+    ),
+    (
+        "point 0 53444900 20313000 C0C0 80F998 80F998 6000000300 84B480 00 00 000003 \
+         82078BCB003F 82098BCB0135 820F8BE8013C",
+        "point 519 3019 . . . . . . 63 - . . . . . .",
+    ),
+    (
+        "whole 53444900 20313000 C0C0 80F998 80F998 84B480 6000000300 00 00 000003 \
+         82078BCB003F 82098BCB0135 820F8BE8013C",
+        "record 47 3 plain X.scaling=63896 Y.scaling=63896 DT.scaling=46208.constant F.minimum=0.maximum=768",
+    ),
+    (
+        "point 0 53444900 20313000 C0C0 80F998 80F998 84B480 6000000300 00 00 000003 \
+         82078BCB003F 82098BCB0135 820F8BE8013C",
+        "point 519 3019 . . . . . . - 63 . . . . . .",
+    ),
+    (
+        "point 1 53444900 20313000 C0C0 80F998 80F998 84B480 6000000300 00 00 000003 \
+         82078BCB003F 82098BCB0135 820F8BE8013C",
+        "point 521 3019 . . . . . . - 309 . . . . . .",
+    ),
+    (
+        "point 2 53444900 20313000 C0C0 80F998 80F998 84B480 6000000300 00 00 000003 \
+         82078BCB003F 82098BCB0135 820F8BE8013C",
+        "point 527 3048 . . . . . . - 316 . . . . . .",
+    ),
+    (
+        "point 3 53444900 20313000 C0C0 80F998 80F998 84B480 6000000300 00 00 000003 \
+         82078BCB003F 82098BCB0135 820F8BE8013C",
+        "refused 10",
+    ),
+    (
+        "write 1 519,3019,63 ! 35 X.scaling=63896 Y.scaling=63896 DT.scaling=46208.constant \
+         F.minimum=0.maximum=768",
+        "written 35 5344490020313000C0C080F99880F99884B4806000000300000000000182078BCB003F",
+    ),
+    // 1,32 cm and 7,68 cm in thousandths of a metre; one sample in 10 ms.
+    ("place 519 63896", "thousandths 13"),
+    ("place 3019 63896", "thousandths 77"),
+    ("place - 46208", "thousandths 10"),
+    ("template B1 09 81 07 C0 80 00 00 84 B4 80", "template ! X Y DT.scaling=46208.constant"),
+    ("write-template ! 11 X Y DT.scaling=46208.constant", "written 11 B1098107C080000084B480"),
+    // C.2.2 is a compact body, which is no template.
+    ("template 5F 2E 82 03 B6 AC F2 A9 F2", "refused 16"),
+];
+
+/// C.1 with all of its 475 points, the third one standing for those not printed.
+fn whole_annex_record(comparison: &mut Comparison) {
+    let header = "53444900 20313000 C0C0 80F998 80F998 84B480 6000000300 00 00 0001DB";
+    let points = "82078BCB003F 82098BCB0135".to_string() + &" 820F8BE8013C".repeat(473);
+    let said = "X.scaling=63896 Y.scaling=63896 DT.scaling=46208.constant F.minimum=0.maximum=768";
+    comparison.ask_typed(
+        ANNEX,
+        &format!("whole {header} {points}"),
+        &format!("record 2879 475 plain {said}"),
+    );
+    comparison.ask_typed(
+        ANNEX,
+        &format!("point 474 {header} {points}"),
+        "point 527 3048 . . . . . . - 316 . . . . . .",
+    );
+}
+
+fn listings(comparison: &mut Comparison) {
+    let paper = "record 0 21 1\npoint 0 -1 0\nshort 21\n";
+    comparison.list_typed(SCOPE, &[P8, &[0x53]].concat(), paper);
+    comparison.list_typed(SCOPE, &[], "end 0\n");
+    comparison.list_typed(SCOPE, M, "record 0 17 0\nend 17\n");
+    comparison.list_typed(SCOPE, &M[..16], "short 0\n");
+    comparison.list_typed(SCOPE, &[0x53, 0x45], "refused 2 1\n");
+    comparison.list_typed(
+        SCOPE,
+        &[M, &[0x53, 0x45]].concat(),
+        "record 0 17 0\nrefused 2 18\n",
+    );
+    comparison.list_typed(SCOPE, &vec![0; 65537], "large\n");
+    comparison.list_typed(SCOPE, &vec![0; 65536], "refused 2 0\n");
+    // P9, then the record of sixteen million points without bytes, which has no point lines.
+    let p9 = [&M[..10], &[4], &M[11..16], &[1, 0x80, 0x05]].concat();
+    comparison.list_typed(SCOPE, &p9, "record 0 19 1\npoint 0 - 5\nend 19\n");
+    let empty = [&M[..10], &[4, 4, 0, 0, 0xFF, 0xFF, 0xFF]].concat();
+    comparison.list_typed(SCOPE, &empty, "record 0 17 16777215\nend 17\n");
+}
+
+const NO_QUESTION: &str = "cannot read: no such question";
+const MISSING: &str = "cannot read: a word is missing";
+const NOT_NUMBER: &str = "cannot read: not a number";
+const NOT_BYTES: &str = "cannot read: not bytes";
+const NOT_PLACE: &str = "cannot read: not a place";
+const NOT_CHANNEL: &str = "cannot read: not a channel";
+const TOO_MANY: &str = "cannot read: a word too many";
+
+/// Each row of the paper's table in several forms.
+pub const UNREADABLE: Typed = &[
+    ("", NO_QUESTION),
+    ("   ", NO_QUESTION),
+    ("\t\r ", NO_QUESTION),
+    ("Judge 53", NO_QUESTION),
+    ("judge53", NO_QUESTION),
+    ("judges 53", NO_QUESTION),
+    ("jud ge 53", NO_QUESTION),
+    ("53 44 49 00", NO_QUESTION),
+    ("!judge", NO_QUESTION),
+    ("writetemplate ! 5 !", NO_QUESTION),
+    ("write_template ! 5 !", NO_QUESTION),
+    ("record 17 0 plain X Y", NO_QUESTION),
+    ("point", MISSING),
+    ("step", MISSING),
+    ("write", MISSING),
+    ("write 0", MISSING),
+    ("write 0 -", MISSING),
+    ("write 0 - !", MISSING),
+    ("write-template", MISSING),
+    ("write-template !", MISSING),
+    ("thousandths", MISSING),
+    ("thousandths 1", MISSING),
+    ("thousandths 1 2", MISSING),
+    ("place", MISSING),
+    ("place .", MISSING),
+    ("place 5", MISSING),
+    ("point x 53", NOT_NUMBER),
+    ("point -1 53", NOT_NUMBER),
+    ("point - 53", NOT_NUMBER),
+    ("point +1 53", NOT_NUMBER),
+    ("point 1.0 53", NOT_NUMBER),
+    ("point 0x1 53", NOT_NUMBER),
+    ("point 1234567890123456789 53", NOT_NUMBER),
+    ("point 0000000000000000000 53", NOT_NUMBER),
+    ("step x 53", NOT_NUMBER),
+    ("step -1 53", NOT_NUMBER),
+    ("step 1234567890123456789 53", NOT_NUMBER),
+    ("write x - ! 20 X Y", NOT_NUMBER),
+    ("write -1 - ! 20 X Y", NOT_NUMBER),
+    ("write ! - ! 20 X Y", NOT_NUMBER),
+    ("write 0 x ! 20 X Y", NOT_NUMBER),
+    ("write 0 , ! 20 X Y", NOT_NUMBER),
+    ("write 0 1, ! 20 X Y", NOT_NUMBER),
+    ("write 0 ,1 ! 20 X Y", NOT_NUMBER),
+    ("write 0 1,,2 ! 20 X Y", NOT_NUMBER),
+    ("write 0 1,-,2 ! 20 X Y", NOT_NUMBER),
+    ("write 0 --1 ! 20 X Y", NOT_NUMBER),
+    ("write 0 2147483648 ! 20 X Y", NOT_NUMBER),
+    ("write 0 -2147483649 ! 20 X Y", NOT_NUMBER),
+    ("write 0 ! ! 20 X Y", NOT_NUMBER),
+    ("write 0 - ! x X Y", NOT_NUMBER),
+    ("write 0 - ! -1 X Y", NOT_NUMBER),
+    ("write 0 - ! 131073 X Y", NOT_NUMBER),
+    ("write 0 - ! X Y", NOT_NUMBER),
+    ("write-template x 5 !", NOT_NUMBER),
+    ("write-template -1 5 !", NOT_NUMBER),
+    ("write-template 4294967296 5 !", NOT_NUMBER),
+    ("write-template !4294967296 5 !", NOT_NUMBER),
+    ("write-template !x 5 !", NOT_NUMBER),
+    ("write-template !! 5 !", NOT_NUMBER),
+    ("write-template - 5 !", NOT_NUMBER),
+    ("write-template 5 x !", NOT_NUMBER),
+    ("write-template 5 131073 !", NOT_NUMBER),
+    ("write-template 5 !", NOT_NUMBER),
+    ("thousandths x 0 0", NOT_NUMBER),
+    ("thousandths - 0 0", NOT_NUMBER),
+    ("thousandths . 0 0", NOT_NUMBER),
+    ("thousandths 1 -1 0", NOT_NUMBER),
+    ("thousandths 1 0 -1", NOT_NUMBER),
+    ("thousandths 1 x", NOT_NUMBER),
+    ("thousandths 1 0 1234567890123456789", NOT_NUMBER),
+    ("place . x", NOT_NUMBER),
+    ("place . -", NOT_NUMBER),
+    ("place . !x", NOT_NUMBER),
+    ("place . !!", NOT_NUMBER),
+    ("place . 2147483648", NOT_NUMBER),
+    ("place . !2147483648", NOT_NUMBER),
+    ("judge 5", NOT_BYTES),
+    ("judge 534", NOT_BYTES),
+    ("judge 5 3", NOT_BYTES),
+    ("judge 53 4", NOT_BYTES),
+    ("judge 5G", NOT_BYTES),
+    ("judge 53,44", NOT_BYTES),
+    ("judge 0x53", NOT_BYTES),
+    ("judge -", NOT_BYTES),
+    ("judge !", NOT_BYTES),
+    ("whole xx", NOT_BYTES),
+    ("extended xx", NOT_BYTES),
+    ("rest xx", NOT_BYTES),
+    ("template xx", NOT_BYTES),
+    ("template B1 0", NOT_BYTES),
+    ("point 0 xx", NOT_BYTES),
+    ("step 0 xx", NOT_BYTES),
+    ("write 0 - x 20 X Y", NOT_BYTES),
+    ("write 0 - A 20 X Y", NOT_BYTES),
+    ("write 0 - !A 20 X Y", NOT_BYTES),
+    ("write 0 - !! 20 X Y", NOT_BYTES),
+    ("write 0 - -- 20 X Y", NOT_BYTES),
+    ("write 0 - AB- 20 X Y", NOT_BYTES),
+    ("place x !", NOT_PLACE),
+    ("place ! !", NOT_PLACE),
+    ("place .. !", NOT_PLACE),
+    ("place -- !", NOT_PLACE),
+    ("place +5 !", NOT_PLACE),
+    ("place x", NOT_PLACE),
+    ("place 1234567890123456789 !", NOT_PLACE),
+    ("write 0 - ! 20 x Y", NOT_CHANNEL),
+    ("write 0 - ! 20 X Y !", NOT_CHANNEL),
+    ("write 0 - ! 20 XY", NOT_CHANNEL),
+    ("write 0 - ! 20 X Y AZ", NOT_CHANNEL),
+    ("write 0 - ! 20 X Y EL", NOT_CHANNEL),
+    ("write 0 - ! 20 X Y W", NOT_CHANNEL),
+    ("write 0 - ! 20 X. Y", NOT_CHANNEL),
+    ("write 0 - ! 20 .X Y", NOT_CHANNEL),
+    ("write 0 - ! 20 X..constant Y", NOT_CHANNEL),
+    ("write 0 - ! 20 X.const Y", NOT_CHANNEL),
+    ("write 0 - ! 20 X.constant=1 Y", NOT_CHANNEL),
+    ("write 0 - ! 20 X.removed=1 Y", NOT_CHANNEL),
+    ("write 0 - ! 20 X.mean Y", NOT_CHANNEL),
+    ("write 0 - ! 20 X.mean= Y", NOT_CHANNEL),
+    ("write 0 - ! 20 X.mean=x Y", NOT_CHANNEL),
+    ("write 0 - ! 20 X.mean=+1 Y", NOT_CHANNEL),
+    ("write 0 - ! 20 X.mean=1=2 Y", NOT_CHANNEL),
+    ("write 0 - ! 20 X.mean=2147483648 Y", NOT_CHANNEL),
+    ("write 0 - ! 20 X.mean=-2147483649 Y", NOT_CHANNEL),
+    ("write 0 - ! 20 X.!mean=2147483648 Y", NOT_CHANNEL),
+    ("write 0 - ! 20 X.Mean=1 Y", NOT_CHANNEL),
+    ("write 0 - ! 20 X.=1 Y", NOT_CHANNEL),
+    ("write 0 - ! 20 !!X Y", NOT_CHANNEL),
+    ("write 0 - ! 20 X.!!mean=1 Y", NOT_CHANNEL),
+    ("write 0 - ! 20 X,Y", NOT_CHANNEL),
+    ("write-template 5 9 X Y !", NOT_CHANNEL),
+    ("write-template 5 9 ! !", NOT_CHANNEL),
+    ("write-template 5 9 ! x", NOT_CHANNEL),
+    ("thousandths 1 2 3 4", TOO_MANY),
+    ("thousandths 1 2 3 x", TOO_MANY),
+    ("place . ! .", TOO_MANY),
+    ("place 5 5 !", TOO_MANY),
+    // The first word that cannot be read decides.
+    ("write x , A -1 W", NOT_NUMBER),
+    ("write 0 - A -1 W", NOT_BYTES),
+    ("write 0 - ! -1 W", NOT_NUMBER),
+    ("write x", NOT_NUMBER),
+    ("point x xx", NOT_NUMBER),
+    ("place x x x", NOT_PLACE),
+    ("place 5 x x", NOT_NUMBER),
+    ("thousandths 1 2 x 4", NOT_NUMBER),
+    // And lines that can be read.
+    (" \tthousandths\t3\r26  1952\r", "thousandths 2"),
+    ("thousandths 000000000000000003 26 1952", "thousandths 2"),
+    ("template b1 03 82 01 6a", "template 106 !"),
+    ("template b1038201 6A", "template 106 !"),
+    ("write 0 - ! 2", "refused 4 AAAA"),
+    ("write 0 - ! 0", "refused 4 -"),
+    ("write-template ! 2", "refused 4 AAAA"),
+    ("write-template ! 3 !", "written 2 B100AA"),
+    (
+        "write 0 - ! 17 Y X",
+        "written 17 5344490020313000C00000000000000000",
+    ),
+    ("write 0 - ! 1 X Y !X", "refused 4 AA"),
+    ("write 0 - ! 1 X Y Z !Z.constant", "refused 11 AA"),
+    ("write 0 - ! 1 X.mean=70000.mean=5 Y", "refused 15 AA"),
+    ("write 0 - ! 1 X.mean=70000 X Y", "refused 15 AA"),
+    ("write 0 - ! 1 X.mean=5.!mean=0 Y", "refused 15 AA"),
+    ("write 0 - ! 1 X.mean=5.!mean=5 Y", "refused 11 AA"),
+    // `X.!constant` is `X`.
+    (
+        "write 1 5,6 ! 21 X.!constant Y",
+        "written 21 5344490020313000C0000000000000000180058006",
+    ),
+    (
+        "write 1 5,6 ! 21 X.constant.!constant Y.!removed",
+        "written 21 5344490020313000C0000000000000000180058006",
+    ),
+    (
+        "write 1 6 ! 19 X.!constant.constant Y",
+        "written 19 5344490020313000C000040000000000018006",
+    ),
+    (
+        "write 0 - ! 17 X Y !Z.!constant",
+        "written 17 5344490020313000C00000000000000000",
+    ),
+    ("write 0 - ! 1 !X.!constant Y", "refused 4 AA"),
+    (
+        "write-template ! 8 X.!constant Y",
+        "written 8 B1068104C0000000",
+    ),
+    ("place . 70000", "absent"),
+    ("place - !70000", "thousandths 1000"),
+    ("place 5 -1", "refused 12"),
+    ("place 65536 !", "refused 12"),
+];

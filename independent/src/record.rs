@@ -1,0 +1,180 @@
+//! Full records (002, clause 7): judged, read, and walked over.
+
+use crate::cursor::Cursor;
+use crate::description::{self, point_size, stored, value_range, value_width, Description, Format};
+use crate::refusal::Refusal;
+
+pub const IDENTIFIER: [u8; 4] = *b"SDI\0";
+pub const VERSION: [u8; 4] = *b" 10\0";
+pub const GREATEST_COUNT: i64 = 16_777_215;
+
+/// A record at the front of some bytes.
+#[derive(Clone, Debug, PartialEq, Eq)]
+pub struct Record {
+    pub length: usize,
+    pub count: i64,
+    pub description: Description,
+    /// Where the first point starts.
+    pub points: usize,
+    /// Where the extended data start, if there are any.
+    pub extended: Option<usize>,
+}
+
+impl Record {
+    pub fn presence(&self) -> &'static str {
+        match self.extended {
+            Some(_) => "extended",
+            None => "plain",
+        }
+    }
+}
+
+/// One place of a point.
+#[derive(Clone, Copy, Debug, PartialEq, Eq)]
+pub enum Place {
+    Absent,
+    Constant,
+    Number(i64),
+}
+
+impl Place {
+    pub fn text(self) -> String {
+        match self {
+            Place::Absent => ".".to_string(),
+            Place::Constant => "-".to_string(),
+            Place::Number(number) => number.to_string(),
+        }
+    }
+}
+
+pub fn judge(bytes: &[u8]) -> Result<Record, Refusal> {
+    let mut cursor = Cursor::new(bytes, 0, 1);
+    fixed(&mut cursor, IDENTIFIER, 2)?;
+    fixed(&mut cursor, VERSION, 3)?;
+    let description = description::read(&mut cursor, Format::Full)?;
+    cursor.demand(6, |byte| byte == 0)?;
+    let opening = cursor.demand(7, |byte| byte & 0x7F == 0)?;
+    let count = cursor.number(3)?;
+    let points = cursor.place();
+    skip_points(&mut cursor, &description, count)?;
+    let extended = match opening {
+        0 => None,
+        _ => Some(skip_extended(&mut cursor)?),
+    };
+    Ok(Record {
+        length: cursor.place(),
+        count,
+        description,
+        points,
+        extended,
+    })
+}
+
+fn fixed(cursor: &mut Cursor, wanted: [u8; 4], number: u8) -> Result<(), Refusal> {
+    for byte in wanted {
+        cursor.demand(number, |found| found == byte)?;
+    }
+    Ok(())
+}
+
+fn skip_points(cursor: &mut Cursor, description: &Description, count: i64) -> Result<(), Refusal> {
+    // A point without bytes is good any number of times.
+    if point_size(description) == 0 {
+        return Ok(());
+    }
+    for _ in 0..count {
+        for channel in stored(description) {
+            read_value(cursor, channel)?;
+        }
+    }
+    Ok(())
+}
+
+/// A two-byte length (notes A3) and that many bytes; answers where they start.
+fn skip_extended(cursor: &mut Cursor) -> Result<usize, Refusal> {
+    let length = cursor.number(2)?;
+    let start = cursor.place();
+    for _ in 0..length {
+        cursor.next()?;
+    }
+    Ok(start)
+}
+
+fn read_value(cursor: &mut Cursor, channel: usize) -> Result<i64, Refusal> {
+    let (low, high) = value_range(channel);
+    let place = cursor.place();
+    let value = cursor.number(value_width(channel))? + low;
+    // Two bytes hold every number of the range; only S can be out of it.
+    if value > high {
+        return Err(Refusal::at(8, place));
+    }
+    Ok(value)
+}
+
+pub fn whole(bytes: &[u8]) -> Result<Record, Refusal> {
+    let record = judge(bytes)?;
+    if record.length < bytes.len() {
+        return Err(Refusal::at(9, record.length));
+    }
+    Ok(record)
+}
+
+pub fn extended(bytes: &[u8]) -> &[u8] {
+    match judge(bytes) {
+        Ok(Record {
+            extended: Some(start),
+            length,
+            ..
+        }) => bytes.get(start..length).unwrap_or(&[]),
+        _ => &[],
+    }
+}
+
+pub fn rest(bytes: &[u8]) -> &[u8] {
+    match judge(bytes) {
+        Ok(record) => bytes.get(record.length..).unwrap_or(&[]),
+        Err(_) => &[],
+    }
+}
+
+pub fn point(bytes: &[u8], index: i64) -> Result<[Place; 16], Refusal> {
+    let record = judge(bytes)?;
+    if index >= record.count {
+        return Err(Refusal::bare(10));
+    }
+    read_point(bytes, &record, index)
+}
+
+/// The point with this index of a record that was judged good.
+pub fn read_point(bytes: &[u8], record: &Record, index: i64) -> Result<[Place; 16], Refusal> {
+    let start = record.points + index as usize * point_size(&record.description);
+    let mut cursor = Cursor::new(bytes, start, 1);
+    let mut places = [Place::Absent; 16];
+    for (channel, place) in places.iter_mut().enumerate() {
+        let said = &record.description[channel];
+        *place = match (said.included, said.constant) {
+            (false, _) => Place::Absent,
+            (true, true) => Place::Constant,
+            (true, false) => Place::Number(read_value(&mut cursor, channel)?),
+        };
+    }
+    Ok(places)
+}
+
+/// One step of the walk over a file of joined records.
+pub enum Step {
+    End,
+    Record(Box<Record>),
+    Refused(Refusal),
+}
+
+/// Places count from the file's start. At or past the end the answer is the end.
+pub fn step(file: &[u8], place: usize) -> Step {
+    match file.get(place..) {
+        None | Some([]) => Step::End,
+        Some(front) => match judge(front) {
+            Ok(record) => Step::Record(Box::new(record)),
+            Err(refusal) => Step::Refused(refusal.later(place)),
+        },
+    }
+}
