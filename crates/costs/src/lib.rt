@@ -1,0 +1,465 @@
+// The library's functions as C calls them: bench/ counts what each costs beside a twin written in C.
+// An answer is handed over in plain numbers: 0 for what was asked for, else the refusal's number.
+// Of sixteen descriptors or places the one that is asked for is handed over, so that all have to be made.
+use channels::Attribute;
+use channels::Descriptor;
+use channels::Format;
+use channels::Place;
+use formats::Outcome;
+use readings::PlaceReading;
+use readings::Reading;
+use records::Fault;
+use records::Verdict;
+use walks::Found;
+
+// What a description says of one channel.
+#[repr(C)]
+pub struct Said {
+    pub included: bool,
+    pub constant: bool,
+    pub detrended: bool,
+    pub scaled: bool,
+    pub scaling: i32,
+    pub bounded: bool,
+    pub minimum: i32,
+    pub capped: bool,
+    pub maximum: i32,
+    pub averaged: bool,
+    pub mean: i32,
+    pub spread: bool,
+    pub deviation: i32,
+}
+
+fn said_of(d: Descriptor) -> Said {
+    Said {
+        included: d.included,
+        constant: d.constant,
+        detrended: d.detrended,
+        scaled: d.scaling.given,
+        scaling: d.scaling.number,
+        bounded: d.minimum.given,
+        minimum: d.minimum.number,
+        capped: d.maximum.given,
+        maximum: d.maximum.number,
+        averaged: d.mean.given,
+        mean: d.mean.number,
+        spread: d.deviation.given,
+        deviation: d.deviation.number,
+    }
+}
+
+// A verdict: the refusal's number, the length or the refusal's place, the count, and whether there are extended data.
+#[repr(C)]
+pub struct Judgement {
+    pub number: u64,
+    pub place: usize,
+    pub count: u32,
+    pub extended: bool,
+    pub said: Said,
+}
+
+fn number_of(fault: Fault) -> u64 {
+    match fault {
+        Fault::Identifier => 2,
+        Fault::Version => 3,
+        Fault::XOrY => 4,
+        Fault::ReservedBit => 5,
+        Fault::ReservedByte => 6,
+        Fault::OpeningBits => 7,
+        Fault::Switch => 8,
+        Fault::LeftOver => 9,
+    }
+}
+
+#[no_mangle]
+pub extern "C" fn costs_judge(bytes: &[u8], channel: usize) -> Judgement {
+    let judged = records::judge(bytes);
+    let description = judged.description;
+    let of = channel % 16;
+    let d = description.channels[of];
+    let said = said_of(d);
+    let verdict = judged.verdict;
+    match verdict {
+        Verdict::Record {
+            length,
+            count,
+            extended,
+        } => Judgement {
+            number: 0,
+            place: length,
+            count: count,
+            extended: extended,
+            said: said,
+        },
+        Verdict::Short => Judgement {
+            number: 1,
+            place: 0,
+            count: 0,
+            extended: false,
+            said: said,
+        },
+        Verdict::Refused { fault, place } => Judgement {
+            number: number_of(fault),
+            place: place,
+            count: 0,
+            extended: false,
+            said: said,
+        },
+    }
+}
+
+// What a description says of one channel, read from a place of some bytes; the place behind it, or the refusal's number and place.
+#[repr(C)]
+pub struct Told {
+    pub number: u64,
+    pub place: usize,
+    pub said: Said,
+}
+
+#[no_mangle]
+pub extern "C" fn costs_describe(bytes: &[u8], compact: bool, channel: usize) -> Told {
+    let format = if compact {
+        Format::Compact
+    } else {
+        Format::Full
+    };
+    let described = descriptions::read(bytes, 0, format);
+    let description = described.description;
+    let of = channel % 16;
+    let d = description.channels[of];
+    let said = said_of(d);
+    let outcome = described.outcome;
+    match outcome {
+        Outcome::Done(end) => Told {
+            number: 0,
+            place: end,
+            said: said,
+        },
+        Outcome::Short => Told {
+            number: 1,
+            place: 0,
+            said: said,
+        },
+        Outcome::Bad(number, place) => Told {
+            number: number as u64,
+            place: place,
+            said: said,
+        },
+    }
+}
+
+// One place of a point: 0 absent, 1 constant, 2 a number.
+#[repr(C)]
+pub struct Seat {
+    pub kind: u64,
+    pub value: i32,
+}
+
+fn seat_of(place: Place) -> Seat {
+    match place {
+        Place::Absent => Seat { kind: 0, value: 0 },
+        Place::Constant => Seat { kind: 1, value: 0 },
+        Place::Number(value) => Seat {
+            kind: 2,
+            value: value,
+        },
+    }
+}
+
+#[no_mangle]
+pub extern "C" fn costs_point(bytes: &[u8], index: usize, channel: usize) -> Seat {
+    let places = records::point(bytes, index);
+    let of = channel % 16;
+    let place = places[of];
+    seat_of(place)
+}
+
+// The length of a part of the caller's bytes, and its first byte.
+#[repr(C)]
+pub struct Piece {
+    pub length: usize,
+    pub first: u8,
+}
+
+fn piece_of(part: &[u8]) -> Piece {
+    let length = part.len();
+    if length == 0 {
+        return Piece {
+            length: 0,
+            first: 0,
+        };
+    }
+    Piece {
+        length: length,
+        first: part[0],
+    }
+}
+
+#[no_mangle]
+pub extern "C" fn costs_extended(bytes: &[u8]) -> Piece {
+    piece_of(records::extended(bytes))
+}
+
+#[no_mangle]
+pub extern "C" fn costs_rest(bytes: &[u8]) -> Piece {
+    piece_of(records::rest(bytes))
+}
+
+// A refusal's number, and the length of what was written.
+#[repr(C)]
+pub struct Done {
+    pub number: u64,
+    pub length: usize,
+}
+
+// The description is the one that stands at the start of `header`: inclusion bytes and descriptors.
+#[no_mangle]
+pub extern "C" fn costs_write(
+    header: &[u8],
+    count: usize,
+    values: &[i32],
+    wanted: bool,
+    extended: &[u8],
+    out: &mut [u8],
+) -> Done {
+    let described = descriptions::read(header, 0, Format::Full);
+    let description = described.description;
+    match records::write(description, count, values, wanted, extended, out) {
+        records::Written::Record { length } => Done {
+            number: 0,
+            length: length,
+        },
+        records::Written::XOrY => Done {
+            number: 4,
+            length: 0,
+        },
+        records::Written::Untidy => Done {
+            number: 11,
+            length: 0,
+        },
+        records::Written::AttributeRange => Done {
+            number: 12,
+            length: 0,
+        },
+        records::Written::CountRange => Done {
+            number: 12,
+            length: 0,
+        },
+        records::Written::Amount => Done {
+            number: 13,
+            length: 0,
+        },
+        records::Written::ValueRange => Done {
+            number: 12,
+            length: 0,
+        },
+        records::Written::ExtendedSize => Done {
+            number: 14,
+            length: 0,
+        },
+        records::Written::Room => Done {
+            number: 15,
+            length: 0,
+        },
+    }
+}
+
+// A step over a file: the refusal's number or, at its end, 100; what was found, and the place afterwards.
+#[repr(C)]
+pub struct Stepped {
+    pub number: u64,
+    pub place: usize,
+    pub count: u32,
+    pub extended: bool,
+    pub next: usize,
+}
+
+#[no_mangle]
+pub extern "C" fn costs_step(file: &[u8], place: usize) -> Stepped {
+    let step = walks::step_at(file, place);
+    let next = step.next;
+    let found = step.found;
+    match found {
+        Found::Record {
+            length,
+            count,
+            extended,
+        } => Stepped {
+            number: 0,
+            place: length,
+            count: count,
+            extended: extended,
+            next: next,
+        },
+        Found::End => Stepped {
+            number: 100,
+            place: 0,
+            count: 0,
+            extended: false,
+            next: next,
+        },
+        Found::Short => Stepped {
+            number: 1,
+            place: 0,
+            count: 0,
+            extended: false,
+            next: next,
+        },
+        Found::Refused { fault, place: at } => Stepped {
+            number: number_of(fault),
+            place: at,
+            count: 0,
+            extended: false,
+            next: next,
+        },
+    }
+}
+
+// A template: the refusal's number and place, and what is in it.
+#[repr(C)]
+pub struct Templated {
+    pub number: u64,
+    pub place: usize,
+    pub described: bool,
+    pub limited: bool,
+    pub maximum: u32,
+    pub said: Said,
+}
+
+fn refusal_of(fault: templates::Fault) -> u64 {
+    match fault {
+        templates::Fault::Short => 1,
+        templates::Fault::Tag => 16,
+        templates::Fault::Length => 17,
+        templates::Fault::Maximum => 18,
+        templates::Fault::XOrY { place: _ } => 4,
+        templates::Fault::ReservedBit { place: _ } => 5,
+        templates::Fault::LeftOver { place: _ } => 9,
+    }
+}
+
+fn place_of(fault: templates::Fault) -> usize {
+    match fault {
+        templates::Fault::Short => 0,
+        templates::Fault::Tag => 0,
+        templates::Fault::Length => 0,
+        templates::Fault::Maximum => 0,
+        templates::Fault::XOrY { place } => place,
+        templates::Fault::ReservedBit { place } => place,
+        templates::Fault::LeftOver { place } => place,
+    }
+}
+
+#[no_mangle]
+pub extern "C" fn costs_read_template(bytes: &[u8], channel: usize) -> Templated {
+    let judged = templates::read(bytes);
+    let template = judged.template;
+    let description = template.description;
+    let of = channel % 16;
+    let d = description.channels[of];
+    let said = said_of(d);
+    let verdict = judged.verdict;
+    match verdict {
+        templates::Verdict::Accepted => Templated {
+            number: 0,
+            place: 0,
+            described: template.described,
+            limited: template.limited,
+            maximum: template.maximum,
+            said: said,
+        },
+        templates::Verdict::Refused(fault) => Templated {
+            number: refusal_of(fault),
+            place: place_of(fault),
+            described: template.described,
+            limited: template.limited,
+            maximum: template.maximum,
+            said: said,
+        },
+    }
+}
+
+// The description is the one that stands at the start of `header`, in the compact format.
+#[no_mangle]
+pub extern "C" fn costs_write_template(
+    header: &[u8],
+    limited: bool,
+    maximum: u32,
+    out: &mut [u8],
+) -> Done {
+    let described = descriptions::read(header, 0, Format::Compact);
+    let description = described.description;
+    match templates::write(true, description, limited, maximum, out) {
+        templates::Written::Done(length) => Done {
+            number: 0,
+            length: length,
+        },
+        templates::Written::XOrY => Done {
+            number: 4,
+            length: 0,
+        },
+        templates::Written::Untidy => Done {
+            number: 11,
+            length: 0,
+        },
+        templates::Written::OutOfRange => Done {
+            number: 12,
+            length: 0,
+        },
+        templates::Written::NoRoom => Done {
+            number: 15,
+            length: 0,
+        },
+    }
+}
+
+// A reading: the refusal's number, 0 for thousandths and 1 for an absent place.
+#[repr(C)]
+pub struct Read {
+    pub number: u64,
+    pub thousandths: i64,
+}
+
+fn read_of(reading: Reading) -> Read {
+    match reading {
+        Reading::Thousandths(n) => Read {
+            number: 0,
+            thousandths: n,
+        },
+        Reading::OutOfRange => Read {
+            number: 12,
+            thousandths: 0,
+        },
+    }
+}
+
+#[no_mangle]
+pub extern "C" fn costs_thousandths(raw: i64, e: u64, f: u64) -> Read {
+    read_of(readings::to_thousandths(raw, e, f))
+}
+
+fn read_of_place(reading: PlaceReading) -> Read {
+    match reading {
+        PlaceReading::Absent => Read {
+            number: 1,
+            thousandths: 0,
+        },
+        PlaceReading::Present(present) => read_of(present),
+    }
+}
+
+// A place is handed in as a `Seat` has it.
+#[no_mangle]
+pub extern "C" fn costs_place(kind: u64, value: i32, given: bool, number: i32) -> Read {
+    let scaling = Attribute {
+        given: given,
+        number: number,
+    };
+    if kind == 2 {
+        return read_of_place(readings::place_thousandths(Place::Number(value), scaling));
+    }
+    if kind == 1 {
+        return read_of_place(readings::place_thousandths(Place::Constant, scaling));
+    }
+    read_of_place(readings::place_thousandths(Place::Absent, scaling))
+}
