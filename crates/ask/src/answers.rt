@@ -3,6 +3,7 @@ use channels::Attribute;
 use channels::Description;
 use channels::Descriptor;
 use channels::Place;
+use records::Fault;
 
 // A line that cannot be read, and why.
 pub fn cannot(text: &mut [u8; 65536], start: u16, reason: &[u8]) -> u16 {
@@ -27,9 +28,9 @@ pub fn put_refused(text: &mut [u8; 65536], start: u16, number: u64) -> u16 {
     texts::put_field(text, used, number)
 }
 
-// A refusal with its place.
-pub fn put_refused_at(text: &mut [u8; 65536], start: u16, number: u64, place: usize) -> u16 {
-    let used = put_refused(text, start, number);
+// A refusal on reading a record, with its place.
+pub fn put_refused_at(text: &mut [u8; 65536], start: u16, fault: Fault, place: usize) -> u16 {
+    let used = put_refused(text, start, records::fault_number(fault) as u64);
     put_place(text, used, place)
 }
 

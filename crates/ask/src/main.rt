@@ -3,12 +3,15 @@ mod answers;
 mod described;
 mod numbers;
 mod questions;
+mod thousandths;
 mod words;
+mod writing;
 
 // The longest line that is read.
 const LONGEST: usize = 262144;
 
-// A byte joins the line that is gathered, as long as there is room. One more than the longest is counted, so that it is seen where there are more.
+// A byte joins the line that is gathered, as long as there is room.
+// One more than the longest is counted, so that it is seen where there are more.
 // Tabs and carriage returns stand for spaces.
 fn join(line: &mut [u8; 262144], gathered: usize, byte: u8) -> usize {
     if LONGEST < gathered {

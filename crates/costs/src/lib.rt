@@ -8,7 +8,6 @@ use channels::Place;
 use formats::Outcome;
 use readings::PlaceReading;
 use readings::Reading;
-use records::Fault;
 use records::Verdict;
 use walks::Found;
 
@@ -58,19 +57,6 @@ pub struct Judgement {
     pub said: Said,
 }
 
-fn number_of(fault: Fault) -> u64 {
-    match fault {
-        Fault::Identifier => 2,
-        Fault::Version => 3,
-        Fault::XOrY => 4,
-        Fault::ReservedBit => 5,
-        Fault::ReservedByte => 6,
-        Fault::OpeningBits => 7,
-        Fault::Switch => 8,
-        Fault::LeftOver => 9,
-    }
-}
-
 #[no_mangle]
 pub extern "C" fn costs_judge(bytes: &[u8], channel: usize) -> Judgement {
     let judged = records::judge(bytes);
@@ -99,7 +85,7 @@ pub extern "C" fn costs_judge(bytes: &[u8], channel: usize) -> Judgement {
             said: said,
         },
         Verdict::Refused { fault, place } => Judgement {
-            number: number_of(fault),
+            number: records::fault_number(fault) as u64,
             place: place,
             count: 0,
             extended: false,
@@ -224,43 +210,16 @@ pub extern "C" fn costs_write(
 ) -> Done {
     let described = descriptions::read(header, 0, Format::Full);
     let description = described.description;
-    match records::write(description, count, values, wanted, extended, out) {
-        records::Written::Record { length } => Done {
+    let written = records::write(description, count, values, wanted, extended, out);
+    if let records::Written::Record { length } = written {
+        return Done {
             number: 0,
             length: length,
-        },
-        records::Written::XOrY => Done {
-            number: 4,
-            length: 0,
-        },
-        records::Written::Untidy => Done {
-            number: 11,
-            length: 0,
-        },
-        records::Written::AttributeRange => Done {
-            number: 12,
-            length: 0,
-        },
-        records::Written::CountRange => Done {
-            number: 12,
-            length: 0,
-        },
-        records::Written::Amount => Done {
-            number: 13,
-            length: 0,
-        },
-        records::Written::ValueRange => Done {
-            number: 12,
-            length: 0,
-        },
-        records::Written::ExtendedSize => Done {
-            number: 14,
-            length: 0,
-        },
-        records::Written::Room => Done {
-            number: 15,
-            length: 0,
-        },
+        };
+    }
+    Done {
+        number: records::written_number(written) as u64,
+        length: 0,
     }
 }
 
@@ -306,7 +265,7 @@ pub extern "C" fn costs_step(file: &[u8], place: usize) -> Stepped {
             next: next,
         },
         Found::Refused { fault, place: at } => Stepped {
-            number: number_of(fault),
+            number: records::fault_number(fault) as u64,
             place: at,
             count: 0,
             extended: false,
@@ -324,18 +283,6 @@ pub struct Templated {
     pub limited: bool,
     pub maximum: u32,
     pub said: Said,
-}
-
-fn refusal_of(fault: templates::Fault) -> u64 {
-    match fault {
-        templates::Fault::Short => 1,
-        templates::Fault::Tag => 16,
-        templates::Fault::Length => 17,
-        templates::Fault::Maximum => 18,
-        templates::Fault::XOrY { place: _ } => 4,
-        templates::Fault::ReservedBit { place: _ } => 5,
-        templates::Fault::LeftOver { place: _ } => 9,
-    }
 }
 
 fn place_of(fault: templates::Fault) -> usize {
@@ -369,7 +316,7 @@ pub extern "C" fn costs_read_template(bytes: &[u8], channel: usize) -> Templated
             said: said,
         },
         templates::Verdict::Refused(fault) => Templated {
-            number: refusal_of(fault),
+            number: templates::fault_number(fault) as u64,
             place: place_of(fault),
             described: template.described,
             limited: template.limited,
@@ -389,27 +336,16 @@ pub extern "C" fn costs_write_template(
 ) -> Done {
     let described = descriptions::read(header, 0, Format::Compact);
     let description = described.description;
-    match templates::write(true, description, limited, maximum, out) {
-        templates::Written::Done(length) => Done {
+    let written = templates::write(true, description, limited, maximum, out);
+    if let templates::Written::Done(length) = written {
+        return Done {
             number: 0,
             length: length,
-        },
-        templates::Written::XOrY => Done {
-            number: 4,
-            length: 0,
-        },
-        templates::Written::Untidy => Done {
-            number: 11,
-            length: 0,
-        },
-        templates::Written::OutOfRange => Done {
-            number: 12,
-            length: 0,
-        },
-        templates::Written::NoRoom => Done {
-            number: 15,
-            length: 0,
-        },
+        };
+    }
+    Done {
+        number: templates::written_number(written) as u64,
+        length: 0,
     }
 }
 
