@@ -5,7 +5,7 @@ use mathlib.Core.List.{List, [], _∷_}
 use Prim.Native.Nat.{ℕ, zero, suc, _+_, _-_, _≤_, _<_}
 use native.Mathlib.Numerals.{add-one}
 use native.Mathlib.Omega.{arith}
-use lib.Dec.{leb, ltb}
+use lib.Dec.{eqb, leb, ltb}
 use lib.ListN.{length, take, drop, getD, length-drop, drop-of-length-le}
 use lib.Seq.{drop-cons, drop-drop, length-take-le}
 use borrow.Author.Tests.{leb-true, leb-false, ltb-true, ltb-false, le-leb, lt-leb, eq-eqb, ne-eqb}
@@ -22,9 +22,10 @@ use Rattle.descriptions.specs.Description.{description}
 use Rattle.descriptions.specs.Read.{nothing, described}
 use Rattle.descriptions.specs.declared.Described.{Described}
 use Rattle.templates.specs.declared.Judged.{Judged}
+use Rattle.templates.specs.declared.Fault.{Fault}
 use Rattle.templates.specs.declared.Fault.the-variants.{Short, Tag, Length, Maximum, LeftOver}
 use Rattle.templates.specs.declared.End.the-variants.{At, Missing}
-use Rattle.templates.specs.Reading.{saying, accepted, refused, require, withContent, isShortest, atEnd, limitedBy, limitedFrom, faultOf, filling, describedBy, contentOf, lengthAndContent, templateOf, endOf}
+use Rattle.templates.specs.Reading.{saying, accepted, refused, require, withContent, isShortest, atEnd, limitedBy, limitedFrom, limitOf, filled, faultOf, filling, describedBy, contentOf, lengthAndContent, templateOf, endOf}
 
 -- a number that one more byte may follow, of three
 pub room-for-more : (s : List ℕ) → Bytes s → (i : ℕ) → i < 3 → value i s < 65536
@@ -104,6 +105,37 @@ module _ (described : Bool) (d : Description) where
     pub limited-field : at < length s → getD s at 0 ≡ 0x82 → limitedFrom described d (drop at s) ≡ withContent (drop (at + 1) s) (limitedBy described d)
     unfolding limitedFrom
     limited-field h e = rw (drop-cons s at 0 h, eq-eqb (getD s at 0) 0x82 e, add-one at)
+
+-- ---- What stands behind the channels, by itself
+
+-- an answer that says of channels just what it is told
+abbrev Free : (Bool → Description → Judged) → Type 0
+Free f = (described : Bool) (d : Description) → filled described d (limitOf (f false nothing)) ≡ f described d
+
+free-require : (t : Bool) (fault : Fault) (f : Bool → Description → Judged) → Free f → Free (λ b d. require t fault (f b d))
+free-require true fault f h = h
+free-require false fault f h = λ described d. refl
+
+free-end : (behind : List ℕ) (f : Bool → Description → Judged) → Free f → Free (λ b d. atEnd behind (f b d))
+unfolding atEnd
+free-end [] f h = h
+free-end (tag ∷ b) f h = λ described d. refl
+
+free-by : (content behind : List ℕ) → Free (λ b d. limitedBy b d content behind)
+unfolding limitedBy
+free-by content behind =
+    free-require (isShortest content) Maximum _
+    (free-end behind (λ b d. accepted (saying b d true (value (length content) content))) (λ described d. refl))
+
+free-content : (s : List ℕ) → Free (λ b d. withContent s (limitedBy b d))
+unfolding withContent
+free-content [] = λ described d. refl
+free-content (n ∷ b) = free-require (leb n (length b)) Length _ (free-by (take n b) (drop n b))
+
+pub free-from : (s : List ℕ) → Free (λ b d. limitedFrom b d s)
+unfolding limitedFrom
+free-from [] = λ described d. refl
+free-from (tag ∷ b) = free-require (eqb tag 0x82) Tag _ (free-content b)
 
 -- ---- The description
 

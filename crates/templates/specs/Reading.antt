@@ -13,8 +13,10 @@ use Rattle.descriptions.specs.Read.{nothing}
 use Rattle.templates.specs.declared.Template.{Template}
 use Rattle.templates.specs.declared.Fault.{Fault}
 use Rattle.templates.specs.declared.Fault.the-variants.{Short, Tag, Length, Maximum, XOrY, ReservedBit, LeftOver}
+use Rattle.templates.specs.declared.Verdict.{Verdict}
 use Rattle.templates.specs.declared.Verdict.the-variants.{Accepted, Refused}
 use Rattle.templates.specs.declared.Judged.{Judged}
+use Rattle.templates.specs.declared.Limit.{Limit}
 use Rattle.templates.specs.declared.End.{End}
 use Rattle.templates.specs.declared.End.the-variants.{At, Missing}
 
@@ -123,3 +125,15 @@ templateOf (tag ∷ b) = require (eqb tag 0xB1) Tag (lengthAndContent b)
 -- where the content ends that the length byte at a place announces
 unfoldable pub endOf : List ℕ → (at : ℕ) → End
 endOf s at = cond (leb (length s) at) Missing (cond (ltb (length s - (at + 1)) (getD s at 0)) Missing (At (at + 1 + getD s at 0)))
+
+-- what stands behind what is said of channels, by itself: a verdict, and the maximum if it is there
+abbrev pub limitOf : Judged → Limit
+limitOf j = record { verdict = j .verdict; limited = j .template .limited; maximum = j .template .maximum }
+
+abbrev pub verdictWith : Verdict → Template → Judged
+verdictWith Accepted t = accepted t
+verdictWith (Refused fault) t = refused fault
+
+-- a template of what is said of channels and of that
+abbrev pub filled : (described : Bool) (d : Description) → Limit → Judged
+filled described d l = verdictWith (l .verdict) (saying described d (l .limited) (l .maximum))

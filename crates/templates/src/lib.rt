@@ -12,8 +12,9 @@ ghost use Rattle.formats.specs.Number.{value};
 ghost use Rattle.formats.specs.Laid.{Room, Laid};
 ghost use Rattle.formats.specs.Lent.{writing};
 ghost use Rattle.templates.specs.Template.{fewest, shortest, encodeDescribed, encodeLimited, encode};
-ghost use Rattle.templates.specs.Reading.{numberOf, saying, accepted, refused, endOf, isShortest, limitedBy, limitedFrom, describedBy, contentOf, templateOf};
+ghost use Rattle.templates.specs.Reading.{numberOf, saying, accepted, refused, endOf, isShortest, limitedBy, limitedFrom, limitOf, filled, describedBy, contentOf, templateOf};
 ghost use Rattle.templates.specs.Writing.{writtenNumber, flawIf, exceeds, inRoom, writeOf};
+ghost use Rattle.descriptions.specs.Read.{nothing};
 ghost use Rattle.descriptions.specs.declared.Flaw.the-variants as flaw;
 
 // What a template says: a description of channels if it has one, and the largest number of points if it names one.
@@ -149,41 +150,73 @@ fn number_of(content: &[u8]) -> u32
     number
 }
 
+// What stands behind what is said of channels, without it: a description is long, and is handed on only where it is read.
+struct Limit {
+    verdict: Verdict,
+    limited: bool,
+    maximum: u32,
+}
+
+fn no_limit(fault: Fault) -> Limit
+    ensures { λ r. ⌜ r ≡ limitOf (refused fault) ⌝ }
+{
+    Limit {
+        verdict: Verdict::Refused(fault),
+        limited: false,
+        maximum: 0,
+    }
+}
+
+fn up_to(limited: bool, maximum: u32) -> Limit
+    ensures { λ r. ⌜ r ≡ limitOf (accepted (saying false nothing limited maximum)) ⌝ }
+{
+    Limit {
+        verdict: Verdict::Accepted,
+        limited: limited,
+        maximum: maximum,
+    }
+}
+
+// The template that says this of channels and that of points.
+fn fill(described: bool, description: Description, limit: Limit) -> Judged
+    ensures { λ r. ⌜ r ≡ filled described description limit ⌝ }
+{
+    let verdict = limit.verdict;
+    match verdict {
+        Verdict::Accepted => accepted(described, description, limit.limited, limit.maximum),
+        Verdict::Refused(fault) => refused(fault),
+    }
+}
+
 // The largest number of points, from `start` to `end`; nothing may follow it.
-fn limited_by(
-    s: &[u8],
-    start: usize,
-    end: usize,
-    described: bool,
-    description: Description,
-) -> Judged
+fn limited_by(s: &[u8], start: usize, end: usize) -> Limit
     requires { ⌜ (start ≤ end) × (end ≤ length (now s)) ⌝ }
-    ensures { λ r. ⌜ r ≡ limitedBy described description (take (end - start) (drop start (now (s .entry)))) (drop end (now (s .entry))) ⌝ }
+    ensures { λ r. ⌜ r ≡ limitOf (limitedBy false nothing (take (end - start) (drop start (now (s .entry)))) (drop end (now (s .entry)))) ⌝ }
 {
     let content = &s[start..end];
     if !is_shortest(content) {
-        return refused(Fault::Maximum);
+        return no_limit(Fault::Maximum);
     }
     let maximum = number_of(content);
     if end < s.len() {
-        return refused(Fault::Tag);
+        return no_limit(Fault::Tag);
     }
-    accepted(described, description, true, maximum)
+    up_to(true, maximum)
 }
 
 // The field 82 or the end, behind what was said of channels.
-fn limited_from(s: &[u8], at: usize, described: bool, description: Description) -> Judged
-    ensures { λ r. ⌜ r ≡ limitedFrom described description (drop at (now (s .entry))) ⌝ }
+fn limited_from(s: &[u8], at: usize) -> Limit
+    ensures { λ r. ⌜ r ≡ limitOf (limitedFrom false nothing (drop at (now (s .entry)))) ⌝ }
 {
     if s.len() <= at {
-        return accepted(described, description, false, 0);
+        return up_to(false, 0);
     }
     if s[at] != 0x82 {
-        return refused(Fault::Tag);
+        return no_limit(Fault::Tag);
     }
     match end_of(s, at + 1) {
-        End::At(end) => limited_by(s, at + 2, end, described, description),
-        End::Missing => refused(Fault::Length),
+        End::At(end) => limited_by(s, at + 2, end),
+        End::Missing => no_limit(Fault::Length),
     }
 }
 
@@ -201,7 +234,7 @@ fn described_by(s: &[u8], end: usize) -> Judged
             if size != end - 4 {
                 return refused(Fault::Length);
             }
-            limited_from(s, end, true, description)
+            fill(true, description, limited_from(s, end))
         }
         Outcome::Short => refused(Fault::Length),
         Outcome::Bad(number, place) => {
@@ -218,10 +251,10 @@ fn content_of(s: &[u8]) -> Judged
     ensures { λ r. ⌜ r ≡ contentOf (drop 2 (now (s .entry))) ⌝ }
 {
     if s.len() <= 2 {
-        return limited_from(s, 2, false, descriptions::nothing());
+        return fill(false, descriptions::nothing(), limited_from(s, 2));
     }
     if s[2] != 0x81 {
-        return limited_from(s, 2, false, descriptions::nothing());
+        return fill(false, descriptions::nothing(), limited_from(s, 2));
     }
     match end_of(s, 3) {
         End::At(end) => described_by(s, end),

@@ -1,10 +1,12 @@
 -- `templates::content_of` meets its contract: the field 81 by where it ends, or what may follow it.
-use mathlib.Core.Path.{_≡_, sym, _∙_}
+use mathlib.Core.Path.{_≡_, ap, sym, _∙_}
+use mathlib.Core.Bool.{false}
 use native.Mathlib.Omega.{arith}
 use borrow.Author.Needs.{needs}
 use lib.ListN.{drop}
-use Rattle.templates.specs.Reading.{withContent, describedBy, contentOf}
-use Rattle.templates.proofs.Parts.{end-within, content-there, content-missing, content-none, content-other, content-field}
+use Rattle.descriptions.specs.Read.{nothing}
+use Rattle.templates.specs.Reading.{withContent, describedBy, contentOf, filled}
+use Rattle.templates.proofs.Parts.{free-from, end-within, content-there, content-missing, content-none, content-other, content-field}
 use Rattle.templates.proofs.content_of.Statement.{statement}
 use Rattle.templates.proofs.content_of.Tie as tie
 
@@ -16,16 +18,22 @@ module _ (c : tie.Else2) where
   field : contentOf (drop 2 (start .args .s .now)) ≡ withContent (drop 3 (start .args .s .now)) describedBy
   field = content-field (start .args .s .now) (omega arith) (c .if2 .left)
 
--- `templates::content_of` meets its contract: the field 81 by where it ends, or what may follow it.
-
 nothing-requires : tie.Need-nothing-requires
 nothing-requires c κs = search needs
 
 limited-from-requires : tie.Need-limited-from-requires
 limited-from-requires c κs = search needs
 
+fill-requires : tie.Need-fill-requires
+fill-requires c κs = search needs
+
 returns : tie.Need-returns
-returns c = c .limited-from .ensures ∙ rw (c .before .nothing .ensures) (sym (content-none (c .before .before .before .before .args .s .now) (c .before .before .if1 .taken)))
+returns c =
+    let s = c .before .before .before .before .before .args .s .now in
+    c .fill .ensures
+    ∙ ap (filled false (c .before .before .nothing .result)) (c .before .limited-from .ensures)
+    ∙ rw (c .before .before .nothing .ensures) (free-from (drop 2 s) false nothing)
+    ∙ sym (content-none s (c .before .before .before .if1 .taken))
 
 shared-slice-read-if2 : tie.Need-shared-slice-read-if2
 shared-slice-read-if2 c = search needs
@@ -36,10 +44,16 @@ nothing-requires-2 c κs = search needs
 limited-from-requires-2 : tie.Need-limited-from-requires-2
 limited-from-requires-2 c κs = search needs
 
+fill-requires-2 : tie.Need-fill-requires-2
+fill-requires-2 c κs = search needs
+
 returns-2 : tie.Need-returns-2
 returns-2 c =
-    c .limited-from2 .ensures
-    ∙ rw (c .before .nothing2 .ensures) (sym (content-other (c .before .before .before .before .before .before .args .s .now) (omega arith) (c .before .before .if2 .taken)))
+    let s = c .before .before .before .before .before .before .before .args .s .now in
+    c .fill2 .ensures
+    ∙ ap (filled false (c .before .before .nothing2 .result)) (c .before .limited-from2 .ensures)
+    ∙ rw (c .before .before .nothing2 .ensures) (free-from (drop 2 s) false nothing)
+    ∙ sym (content-other s (omega arith) (c .before .before .before .if2 .taken))
 
 end-of-requires : tie.Need-end-of-requires
 end-of-requires c κs = search needs
@@ -79,10 +93,12 @@ content-of-spec =
     (tie.spec
     nothing-requires
     limited-from-requires
+    fill-requires
     returns
     shared-slice-read-if2
     nothing-requires-2
     limited-from-requires-2
+    fill-requires-2
     returns-2
     end-of-requires
     enum-known-end

@@ -1,12 +1,13 @@
 -- `templates::described_by` meets its contract: by how reading the description ended.
-use mathlib.Core.Path.{_≡_, sym, _∙_}
+use mathlib.Core.Path.{_≡_, ap, sym, _∙_}
+use mathlib.Core.Bool.{true}
 use Prim.Native.Nat.{_+_, _-_, _<_}
 use native.Mathlib.Omega.{arith}
 use borrow.Author.Needs.{needs}
 use borrow.Author.Tests.{eq-eqb, ne-eqb}
 use lib.ListN.{length, take, drop}
-use Rattle.templates.specs.Reading.{describedBy, refused, faultOf}
-use Rattle.templates.proofs.Parts.{told-done, told-short, told-bad, described-whole, described-part, described-short, described-bad}
+use Rattle.templates.specs.Reading.{describedBy, refused, faultOf, filled}
+use Rattle.templates.proofs.Parts.{free-from, told-done, told-short, told-bad, described-whole, described-part, described-short, described-bad}
 use Rattle.templates.proofs.described_by.Statement.{statement}
 use Rattle.templates.proofs.described_by.Tie as tie
 
@@ -52,6 +53,9 @@ returns c =
 limited-from-requires : tie.Need-limited-from-requires
 limited-from-requires c κs = search needs
 
+fill-requires : tie.Need-fill-requires
+fill-requires c κs = search needs
+
 enum-told : tie.Need-enum-told
 enum-told c = search needs
 
@@ -61,8 +65,8 @@ refused-requires-2 c κs = search needs
 enum-known-outcome-2 : tie.Need-enum-known-outcome-2
 enum-known-outcome-2 c = search needs
 
-add-t20 : tie.Need-add-t20
-add-t20 c = omega (arith, broken (c .before .before) .1)
+add-t21 : tie.Need-add-t21
+add-t21 c = omega (arith, broken (c .before .before) .1)
 
 refused-requires-3 : tie.Need-refused-requires-3
 refused-requires-3 c κs = search needs
@@ -70,17 +74,21 @@ refused-requires-3 c κs = search needs
 returns-2 : tie.Need-returns-2
 returns-2 c = c .refused3 .ensures ∙ sym (broken (c .before .before .before) .0 ∙ rw (eq-eqb _ 4 (c .before .if2 .taken)))
 
-add-t22 : tie.Need-add-t22
-add-t22 c = omega (arith, broken (c .before .before) .1)
+add-t23 : tie.Need-add-t23
+add-t23 c = omega (arith, broken (c .before .before) .1)
 
 refused-requires-4 : tie.Need-refused-requires-4
 refused-requires-4 c κs = search needs
 
 returns-3 : tie.Need-returns-3
 returns-3 c =
-    let k = c .before .before .before in
+    let k = c .before .before .before .before in
     let a = start (k .before .before) .args in
-    c .limited-from .ensures ∙ sym (described-whole (a .s .now) (a .end) (search needs) (search needs) (told-done _ _ (k .before .before .before .read .ensures) (k .outcome .given .1)) (c .before .if1 .left))
+    let d = k .before .before .before .read .result .description in
+    c .fill .ensures
+    ∙ ap (filled true d) (c .before .limited-from .ensures)
+    ∙ free-from (drop (a .end) (a .s .now)) true d
+    ∙ sym (described-whole (a .s .now) (a .end) (search needs) (search needs) (told-done _ _ (k .before .before .before .read .ensures) (k .outcome .given .1)) (c .before .before .if1 .left))
 
 returns-4 : tie.Need-returns-4
 returns-4 c =
@@ -104,13 +112,14 @@ described-by-spec =
     refused-requires
     returns
     limited-from-requires
+    fill-requires
     enum-told
     refused-requires-2
     enum-known-outcome-2
-    add-t20
+    add-t21
     refused-requires-3
     returns-2
-    add-t22
+    add-t23
     refused-requires-4
     returns-3
     returns-4

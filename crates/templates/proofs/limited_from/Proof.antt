@@ -1,10 +1,12 @@
 -- `templates::limited_from` meets its contract: the end, another tag, or the field 82 by where it ends.
-use mathlib.Core.Path.{_≡_, sym, _∙_}
+use mathlib.Core.Path.{_≡_, ap, sym, _∙_}
+use mathlib.Core.Bool.{false}
 use Prim.Native.Nat.{_+_}
 use native.Mathlib.Omega.{arith}
 use borrow.Author.Needs.{needs}
 use lib.ListN.{drop}
-use Rattle.templates.specs.Reading.{withContent, limitedBy, limitedFrom}
+use Rattle.descriptions.specs.Read.{nothing}
+use Rattle.templates.specs.Reading.{withContent, limitedBy, limitedFrom, limitOf}
 use Rattle.templates.proofs.Parts.{end-within, content-there, content-missing, limited-none, limited-other, limited-field}
 use Rattle.templates.proofs.limited_from.Statement.{statement}
 use Rattle.templates.proofs.limited_from.Tie as tie
@@ -15,27 +17,25 @@ module _ (c : tie.Else2) where
 
   -- the field 82
   field : let a = start .args in
-      limitedFrom (a .described) (a .description) (drop (a .at) (a .s .now)) ≡ withContent (drop (a .at + 1) (a .s .now)) (limitedBy (a .described) (a .description))
+      limitedFrom false nothing (drop (a .at) (a .s .now)) ≡ withContent (drop (a .at + 1) (a .s .now)) (limitedBy false nothing)
   field = limited-field _ _ (start .args .s .now) (start .args .at) (omega arith) (c .if2 .left)
 
--- `templates::limited_from` meets its contract: the end, another tag, or the field 82 by where it ends.
-
-accepted-requires : tie.Need-accepted-requires
-accepted-requires c κs = search needs
+up-to-requires : tie.Need-up-to-requires
+up-to-requires c κs = search needs
 
 returns : tie.Need-returns
-returns c = c .accepted .ensures ∙ sym (limited-none _ _ _ _ (c .before .if1 .taken))
+returns c = c .up-to .ensures ∙ ap limitOf (sym (limited-none _ _ _ _ (c .before .if1 .taken)))
 
 shared-slice-read-if2 : tie.Need-shared-slice-read-if2
 shared-slice-read-if2 c = search needs
 
-refused-requires : tie.Need-refused-requires
-refused-requires c κs = search needs
+no-limit-requires : tie.Need-no-limit-requires
+no-limit-requires c κs = search needs
 
 returns-2 : tie.Need-returns-2
 returns-2 c =
     let a = c .before .before .before .before .before .args in
-    c .refused .ensures ∙ sym (limited-other _ _ (a .s .now) (a .at) (omega arith) (c .before .if2 .taken))
+    c .no-limit .ensures ∙ ap limitOf (sym (limited-other _ _ (a .s .now) (a .at) (omega arith) (c .before .if2 .taken)))
 
 add-end-of : tie.Need-add-end-of
 add-end-of c = search needs
@@ -59,8 +59,8 @@ limited-by-requires c κs =
 enum-told : tie.Need-enum-told
 enum-told c = search needs
 
-refused-requires-2 : tie.Need-refused-requires-2
-refused-requires-2 c κs = search needs
+no-limit-requires-2 : tie.Need-no-limit-requires-2
+no-limit-requires-2 c κs = search needs
 
 returns-3 : tie.Need-returns-3
 returns-3 c =
@@ -69,24 +69,24 @@ returns-3 c =
     let a = start (f .before) .args in
     let z : a .at + 1 + 1 ≡ a .at + 2 = omega arith in
     c .limited-by .ensures
-    ∙ sym (field (f .before) ∙ rw z at (content-there (a .s .now) (a .at + 1) (limitedBy (a .described) (a .description)) (sym (f .end-of .ensures) ∙ e .end .given .1)))
+    ∙ ap limitOf (sym (field (f .before) ∙ rw z at (content-there (a .s .now) (a .at + 1) (limitedBy false nothing) (sym (f .end-of .ensures) ∙ e .end .given .1))))
 
 returns-4 : tie.Need-returns-4
 returns-4 c =
     let e = c .before in
     let f = e .before .before in
     let a = start (f .before) .args in
-    c .refused2 .ensures
-    ∙ sym (field (f .before) ∙ content-missing (a .s .now) (a .at + 1) (limitedBy (a .described) (a .description)) (sym (f .end-of .ensures) ∙ e .enum-told .given .1))
+    c .no-limit2 .ensures
+    ∙ ap limitOf (sym (field (f .before) ∙ content-missing (a .s .now) (a .at + 1) (limitedBy false nothing) (sym (f .end-of .ensures) ∙ e .enum-told .given .1)))
 
 pub limited-from-spec : {M : Type 1} → statement M
 limited-from-spec =
     tie.close
     (tie.spec
-    accepted-requires
+    up-to-requires
     returns
     shared-slice-read-if2
-    refused-requires
+    no-limit-requires
     returns-2
     add-end-of
     end-of-requires
@@ -94,6 +94,6 @@ limited-from-spec =
     add-limited-by
     limited-by-requires
     enum-told
-    refused-requires-2
+    no-limit-requires-2
     returns-3
     returns-4)
