@@ -2,6 +2,7 @@
 use channels::Format;
 use channels::Place;
 use records::Fault;
+use records::Taken;
 use walks::Found;
 ghost use Prim.Native.Nat.{_≤_};
 ghost use lib.ListN.{length};
@@ -22,42 +23,41 @@ fn put_place(text: &mut [u8; 65536], used: u16, place: Place) -> u16 {
     }
 }
 
-fn put_places(text: &mut [u8; 65536], start: u16, places: [Place; 16]) -> u16 {
-    let mut used = start;
-    let mut channel: usize = 0;
-    while channel < 16 {
-        let place = places[channel];
-        used = put_place(text, used, place);
-        channel += 1;
-    }
-    used
-}
-
-fn put_point(text: &mut [u8; 65536], used: u16, index: u32, places: [Place; 16]) -> u16 {
+// How the line of a point begins.
+fn put_index(text: &mut [u8; 65536], used: u16, index: u32) -> u16 {
     let used = texts::put_bytes(text, used, b"point");
-    let used = texts::put_field(text, used, index as u64);
-    let used = put_places(text, used, places);
-    texts::put(text, used, b'\n')
+    texts::put_field(text, used, index as u64)
 }
 
 // The points of the record that stands at a place. Points that have no bytes have no lines, however many they are.
 // Eight bytes of identifier and version stand before the description, and between it and the points five: two single bytes and the count.
+// The channels are gone through here, since a function of their own would be handed a copy of the description for each point.
 fn put_points(text: &mut [u8; 65536], start: u16, file: &[u8], place: usize, count: u32) -> u16
     requires { ⌜ place ≤ 65536 ⌝ }
 {
     let described = descriptions::read(file, place + 8, Format::Full);
     let description = described.description;
-    let width = records::point_width(description);
-    if width == 0 {
+    if records::point_width(description) == 0 {
         return start;
     }
     let mut used = start;
     let mut at = place + 13 + descriptions::size(description, Format::Full);
     let mut index: u32 = 0;
     while index < count {
-        let places = records::point_at(file, at, description);
-        used = put_point(text, used, index, places);
-        at += width;
+        used = put_index(text, used, index);
+        let mut channel: usize = 0;
+        while channel < 16 {
+            let d = description.channels[channel];
+            match records::place_at(file, at, channel, d) {
+                Taken::Took { place: held, next } => {
+                    used = put_place(text, used, held);
+                    at = next;
+                }
+                Taken::Missing => return used,
+            }
+            channel += 1;
+        }
+        used = texts::put(text, used, b'\n');
         index += 1;
     }
     used

@@ -10,9 +10,10 @@ use Rattle.formats.specs.Reader.{run, readAt}
 use Rattle.formats.specs.OneAnswer.{OneAnswer, named}
 use Rattle.formats.specs.Part.{Part, SamePart, one-part}
 use Rattle.formats.specs.Lent.{Writing, writing}
+use Rattle.channels.specs.declared.Descriptor.{Descriptor}
 use Rattle.channels.specs.declared.Description.{Description}
 use Rattle.records.specs.Record.{point, width, fullRecord}
-use Rattle.records.specs.Points.{placesAt}
+use Rattle.records.specs.Points.{taken, seat, placesAt}
 use Rattle.records.specs.Write.{numberOf as writtenNumber, writeOf}
 use Rattle.records.specs.Verdict.{numberOf, judged, judgedWhole, extendedPlace, extendedSize, restPlace, restSize, pointedAt, placesIn}
 use Rattle.records.specs.declared.Fault.{Fault}
@@ -33,6 +34,9 @@ module _ (s : List ℕ) where
 
   pub one-point-at : (start : ℕ) (d : Description) → OneAnswer (λ r. r ≡ placesAt d (readAt (point d) s start))
   one-point-at start d = named
+
+  pub one-place-at : (at channel : ℕ) (d : Descriptor) → OneAnswer (λ r. r ≡ taken (readAt (seat channel d) s at))
+  one-place-at at channel d = named
 
 pub one-width : (d : Description) → OneAnswer (λ r. (r ≡ width d) × (r < 33))
 one-width d r q e g = e .0 ∙ sym (g .0)

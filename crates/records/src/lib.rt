@@ -193,14 +193,14 @@ fn sample_at(s: &[u8], at: usize, channel: usize) -> Sample
 }
 
 // What a sample point says of a channel, and where that ends.
-enum Taken {
+pub enum Taken {
     Took { place: Place, next: usize },
     Missing,
 }
 
-// A channel that is not included and one that is constant have no bytes.
-fn place_at(s: &[u8], at: usize, channel: usize, d: Descriptor) -> Taken
-    ensures { λ r. ⌜ r ≡ taken (readAt (seat channel d) (now (s .entry)) at) ⌝ }
+// What stands at a place for a channel of a sample point. A channel that is not included and one that is constant have no bytes.
+pub fn place_at(bytes: &[u8], at: usize, channel: usize, d: Descriptor) -> Taken
+    ensures { λ r. ⌜ r ≡ taken (readAt (seat channel d) (now (bytes .entry)) at) ⌝ }
 {
     if !d.included {
         return Taken::Took {
@@ -214,7 +214,7 @@ fn place_at(s: &[u8], at: usize, channel: usize, d: Descriptor) -> Taken
             next: at,
         };
     }
-    match sample_at(s, at, channel) {
+    match sample_at(bytes, at, channel) {
         Sample::Number { value, next } => Taken::Took {
             place: Place::Number(value),
             next: next,

@@ -2,6 +2,7 @@
 // Each function takes the text and how many bytes are gathered, and answers how many are gathered then.
 // Sixteen bits count them, so that there is always room for one more.
 ghost use mathlib.Core.Path.{_≡_};
+ghost use Prim.Native.Nat.{_+_, _^_, _<_};
 ghost use lib.IntN.{natAbs};
 
 // A byte joins the text, which is written out when it has filled its array.
@@ -15,7 +16,8 @@ pub fn put(text: &mut [u8; 65536], used: u16, byte: u8) -> u16 {
     used + 1
 }
 
-pub fn put_bytes(text: &mut [u8; 65536], start: u16, bytes: &[u8]) -> u16 {
+// Bytes join the text one by one.
+fn put_each(text: &mut [u8; 65536], start: u16, bytes: &[u8]) -> u16 {
     let mut used = start;
     let mut i: usize = 0;
     while i < bytes.len() {
@@ -25,10 +27,59 @@ pub fn put_bytes(text: &mut [u8; 65536], start: u16, bytes: &[u8]) -> u16 {
     used
 }
 
-pub fn put_number(text: &mut [u8; 65536], used: u16, number: u64) -> u16 {
-    let mut digits = [0; 20];
-    let n = io::decimal(number, &mut digits);
-    put_bytes(text, used, &digits[..n])
+// Where the bytes do not fill the text this is asked once, and not for each of them.
+pub fn put_bytes(text: &mut [u8; 65536], start: u16, bytes: &[u8]) -> u16 {
+    let first = start as usize;
+    if 65535 - first < bytes.len() {
+        return put_each(text, start, bytes);
+    }
+    let mut i: usize = 0;
+    while i < bytes.len() {
+        text[first + i] = bytes[i];
+        i += 1;
+    }
+    (first + i) as u16
+}
+
+// How many digits a number has. Sixty-four bits hold none of more than twenty.
+fn digit_count(number: u64) -> usize
+    ensures { λ r. ⌜ (0 < r) × (r < 21) × (number < 10 ^ r) ⌝ }
+{
+    let mut count: usize = 1;
+    let mut limit: u64 = 10;
+    while limit <= number {
+        if count == 19 {
+            return 20;
+        }
+        count += 1;
+        limit *= 10;
+    }
+    count
+}
+
+// Twenty bytes have room in the text, which is written out where they have not.
+fn room(text: &[u8; 65536], used: u16) -> u16
+    ensures { λ r. ⌜ r + 20 < 65536 ⌝ }
+{
+    if 65515 < used {
+        write_out(text, used);
+        return 0;
+    }
+    used
+}
+
+// The digits are put where they belong at once, the last one first: each takes one division.
+pub fn put_number(text: &mut [u8; 65536], start: u16, number: u64) -> u16 {
+    let first = room(text, start) as usize;
+    let end = first + digit_count(number);
+    let mut at = end;
+    let mut rest = number;
+    while first < at {
+        at -= 1;
+        text[at] = b'0' + (rest % 10) as u8;
+        rest /= 10;
+    }
+    end as u16
 }
 
 // A number as a field of a line: a space stands before it.

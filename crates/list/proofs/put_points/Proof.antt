@@ -1,6 +1,6 @@
--- `list::put_points` is safe and ends. The invariant: each point passed had at most 32 bytes.
+-- `list::put_points` is safe and ends: each turn takes one channel more, and each turn outside one point more.
 use mathlib.Core.Path.{_≡_}
-use Prim.Native.Nat.{ℕ, _≤_, _<_, _+_, _-_, _*_}
+use Prim.Native.Nat.{ℕ, _≤_, _-_}
 use native.Mathlib.Omega.{arith}
 use borrow.Author.Needs.{needs}
 use lib.ListN.{length}
@@ -12,66 +12,104 @@ use Rattle.descriptions.specs.Size.{description-size}
 use Rattle.list.proofs.put_points.Statement.{statement}
 use Rattle.list.proofs.put_points.Tie as tie
 
+abbrev Inv-loop2 : tie.InvT-loop2
+Inv-loop2 text₀ start file place count description used₀ at₀ index channel₀ text used at channel = channel ≤ 16
+
+abbrev μ-loop2 : tie.MeasureT-loop2
+μ-loop2 text₀ start file place count description used₀ at₀ index channel₀ text used at channel = 16 - channel
+
 abbrev Inv-loop : tie.InvT-loop
-Inv-loop text₀ start file place count description width used₀ at₀ index₀ text used at index = (width < 33) × (at ≤ 65727 + 32 * index)
+Inv-loop text₀ start file place count description used₀ at₀ index₀ text used at index = index ≤ count
 
 abbrev μ-loop : tie.MeasureT-loop
-μ-loop text₀ start file place count description width used₀ at₀ index₀ text used at index = count - index
+μ-loop text₀ start file place count description used₀ at₀ index₀ text used at index = count - index
 
 -- a description's bytes are few
 size-small : (d : Description) (r : ℕ) → r ≡ length (encodeDescription (widthOf Full) d) → r ≤ 178
 unfolding widthOf
 size-small d r e = omega (arith, description-size 2 d)
 
-add-read : tie.Need-add-read Inv-loop μ-loop
+add-read : tie.Need-add-read Inv-loop2 μ-loop2 Inv-loop μ-loop
 add-read c = search needs
 
-read-requires : tie.Need-read-requires Inv-loop μ-loop
+read-requires : tie.Need-read-requires Inv-loop2 μ-loop2 Inv-loop μ-loop
 read-requires c κs = search needs
 
-point-width-requires : tie.Need-point-width-requires Inv-loop μ-loop
+point-width-requires : tie.Need-point-width-requires Inv-loop2 μ-loop2 Inv-loop μ-loop
 point-width-requires c κs = search needs
 
-returns : tie.Need-returns Inv-loop μ-loop
+returns : tie.Need-returns Inv-loop2 μ-loop2 Inv-loop μ-loop
 returns c = search needs
 
-add-at : tie.Need-add-at Inv-loop μ-loop
+add-at : tie.Need-add-at Inv-loop2 μ-loop2 Inv-loop μ-loop
 add-at c = search needs
 
-size-requires : tie.Need-size-requires Inv-loop μ-loop
+size-requires : tie.Need-size-requires Inv-loop2 μ-loop2 Inv-loop μ-loop
 size-requires c κs = search needs
 
-add-at-2 : tie.Need-add-at-2 Inv-loop μ-loop
+add-at-2 : tie.Need-add-at-2 Inv-loop2 μ-loop2 Inv-loop μ-loop
 add-at-2 c = record { fits = omega (arith, size-small _ _ (c .size .ensures)) }
 
-loop-holds : tie.Need-loop-holds Inv-loop μ-loop
-loop-holds c = (omega arith, omega (arith, size-small _ _ (c .size .ensures)))
+loop-holds : tie.Need-loop-holds Inv-loop2 μ-loop2 Inv-loop μ-loop
+loop-holds c = search needs
 
-point-at-requires : tie.Need-point-at-requires Inv-loop μ-loop
-point-at-requires c κs = search needs
+put-index-requires : tie.Need-put-index-requires Inv-loop2 μ-loop2 Inv-loop μ-loop
+put-index-requires c κs = search needs
 
-put-point-requires : tie.Need-put-point-requires Inv-loop μ-loop
-put-point-requires c κs = search needs
+loop2-holds : tie.Need-loop2-holds Inv-loop2 μ-loop2 Inv-loop μ-loop
+loop2-holds c = search needs
 
-add-at-3 : tie.Need-add-at-3 Inv-loop μ-loop
-add-at-3 c = search needs
+mul-d : tie.Need-mul-d Inv-loop2 μ-loop2 Inv-loop μ-loop
+mul-d c = search needs
 
-add-index : tie.Need-add-index Inv-loop μ-loop
+element-copy-out-d : tie.Need-element-copy-out-d Inv-loop2 μ-loop2 Inv-loop μ-loop
+element-copy-out-d c = search needs
+
+place-at-requires : tie.Need-place-at-requires Inv-loop2 μ-loop2 Inv-loop μ-loop
+place-at-requires c κs = search needs
+
+enum-known-held : tie.Need-enum-known-held Inv-loop2 μ-loop2 Inv-loop μ-loop
+enum-known-held c = search needs
+
+put-place-requires : tie.Need-put-place-requires Inv-loop2 μ-loop2 Inv-loop μ-loop
+put-place-requires c κs = search needs
+
+enum-told : tie.Need-enum-told Inv-loop2 μ-loop2 Inv-loop μ-loop
+enum-told c = search needs
+
+returns-2 : tie.Need-returns-2 Inv-loop2 μ-loop2 Inv-loop μ-loop
+returns-2 c = search needs
+
+add-channel : tie.Need-add-channel Inv-loop2 μ-loop2 Inv-loop μ-loop
+add-channel c = search needs
+
+loop2-less : tie.Need-loop2-less Inv-loop2 μ-loop2 Inv-loop μ-loop
+loop2-less c = search needs
+
+loop2-again : tie.Need-loop2-again Inv-loop2 μ-loop2 Inv-loop μ-loop
+loop2-again c = search needs
+
+put-requires : tie.Need-put-requires Inv-loop2 μ-loop2 Inv-loop μ-loop
+put-requires c κs = search needs
+
+add-index : tie.Need-add-index Inv-loop2 μ-loop2 Inv-loop μ-loop
 add-index c = search needs
 
-loop-less : tie.Need-loop-less Inv-loop μ-loop
+loop-less : tie.Need-loop-less Inv-loop2 μ-loop2 Inv-loop μ-loop
 loop-less c = search needs
 
-loop-again : tie.Need-loop-again Inv-loop μ-loop
+loop-again : tie.Need-loop-again Inv-loop2 μ-loop2 Inv-loop μ-loop
 loop-again c = search needs
 
-returns-2 : tie.Need-returns-2 Inv-loop μ-loop
-returns-2 c = search needs
+returns-3 : tie.Need-returns-3 Inv-loop2 μ-loop2 Inv-loop μ-loop
+returns-3 c = search needs
 
 pub put-points-spec : {M : Type 1} → statement M
 put-points-spec =
     tie.close
     (tie.spec
+    Inv-loop2
+    μ-loop2
     Inv-loop
     μ-loop
     add-read
@@ -82,10 +120,20 @@ put-points-spec =
     size-requires
     add-at-2
     loop-holds
-    point-at-requires
-    put-point-requires
-    add-at-3
+    put-index-requires
+    loop2-holds
+    mul-d
+    element-copy-out-d
+    place-at-requires
+    enum-known-held
+    put-place-requires
+    enum-told
+    returns-2
+    add-channel
+    loop2-less
+    loop2-again
+    put-requires
     add-index
     loop-less
     loop-again
-    returns-2)
+    returns-3)
