@@ -1,41 +1,45 @@
 -- What is left to judge and to write of a point, and of a row of points, when some of it is done.
-use mathlib.Core.Path.{_≡_, refl, sym, ap, ap₂, _∙_}
+use mathlib.Core.Path.{_≡_, refl, sym, ap, _∙_}
 use mathlib.Core.Bool.{Bool, true, false, cond, _&&_}
-use mathlib.Core.List.{List, [], _∷_, _++_, flatMap}
-use mathlib.Core.Logic.{by-cases}
+use mathlib.Core.List.{List, [], _∷_, _++_, map, flatMap, append-nil, append-assoc}
+use mathlib.Core.Logic.{_⊎_, inl, inr, ⊎-elim}
 use mathlib.Core.Option.{some, none}
-use Prim.Native.Nat.{ℕ, zero, suc, _+_, _-_, _*_, _/_, _%_, _≤_, _<_}
-use native.Mathlib.Decide.{decLt}
+use Prim.Native.Nat.{ℕ, zero, suc, _+_, _-_, _*_, _/_, _%_, _^_, _≤_, _<_}
 use native.Mathlib.Numerals.{add-one}
 use native.Mathlib.Omega.{arith}
-use borrow.Author.Tests.{ne-eqb, le-leb}
+use borrow.Author.Tests.{ne-eqb, le-leb, ltb-true}
 use lib.Dec.{T, eqb}
-use lib.Ieee.Fits.{and-l, and-r}
-use lib.IntN.{ℤ, pos}
-use lib.ListN.{length, getD, set, take, drop, drop-of-length-le, length-append, length-drop}
-use lib.Seq.{drop-cons, drop-drop}
+use lib.IntN.{ℤ, pos, negsuc, natAbs, _+ℤ_, _-ℤ_}
+use lib.Signed.{nonNeg, ltZ}
+use mir.Syntax.{w8, w16, w32}
+use mir.Val.{SFits, Fits}
+use lib.ListN.{length, getD, set, take, drop, drop-of-length-le, length-append}
+use lib.Seq.{drop-cons, drop-drop, take-all, take-suc-set, take-at}
 use Rattle.formats.specs.Bytes.{impossible}
 use Rattle.formats.specs.Number.{digits, length-digits}
-use Rattle.formats.specs.Put.{puts}
+use Rattle.formats.specs.Put.{puts, length-puts, puts-is}
 use Rattle.formats.specs.Laid.{Room, Laid}
-use Rattle.formats.specs.Writes.{All, Each, encodeEach}
+use Rattle.formats.specs.Writes.{encodeEach}
 use Rattle.formats.specs.Lent.{writing}
 use Rattle.channels.specs.Channel.{S, signedOf}
-use Rattle.channels.specs.Stored.{storedOf, storedIf, fits}
-use Rattle.channels.specs.Switch.{byteOf, byteIf, isState, state-byte}
+use Rattle.channels.specs.Stored.{offset, valueOf, storedOf, storedIf, fits}
+use Rattle.channels.specs.Switch.{byteOf, byteIf, isState}
 use Rattle.channels.specs.declared.Stored.{Stored}
 use Rattle.channels.specs.declared.Stored.the-variants.{Number, Outside}
 use Rattle.channels.specs.declared.Descriptor.{Descriptor}
 use Rattle.channels.specs.declared.Description.{Description}
 use Rattle.descriptions.specs.Description.{absent, isStored, encodeDescription}
 use Rattle.descriptions.specs.Write.{flawOf, putRoom, putFlaw, putIf}
-use Rattle.descriptions.specs.declared.Flaw.the-variants.{None}
+use Rattle.descriptions.specs.Size.{description-size}
+use Rattle.descriptions.specs.declared.Flaw.{Flaw}
+use Rattle.descriptions.specs.declared.Flaw.the-variants as flaw
 use Rattle.descriptions.specs.declared.Written.{Written}
 use Rattle.descriptions.specs.declared.Written.the-variants.{Done, Flawed, NoRoom}
-use Rattle.records.specs.Record.{storedFrom, stored, widths, width, fitsSample, encodeSample, encodePoint, encodeExtended, ValidPoint}
+use Rattle.records.specs.Record.{Record, stored, fitsSample, encodeSample, encodeExtended}
 use Rattle.records.specs.Values.{pointsOf}
-use Rattle.records.specs.Write.{fitsEach, fitsRow, openingBytes}
-use Rattle.records.proofs.Samples.{stored-in, stored-out, stored-none}
+use Rattle.records.specs.Write.{recordOf, fitsEach, fitsRow, heldFrom, rowBytes, checkValues, byFlaw, check, putWhere, writeOf, openingBytes}
+use Rattle.records.specs.declared.Written.{Written as Answer}
+use Rattle.records.specs.declared.Written.the-variants as answers
 
 -- ---- One number
 
@@ -61,12 +65,11 @@ module _ (channel : ℕ) (v : ℤ) where
       go true = refl
       go false = refl
 
-  pub sample-found : {n : ℕ} → sampleStored channel v ≡ Number n → (fitsSample channel v ≡ true) × (cond (eqb channel S) (byteOf v) (storedOf 2 (signedOf channel) v) ≡ n)
+  pub sample-found : {n : ℕ} → sampleStored channel v ≡ Number n → fitsSample channel v ≡ true
   sample-found {n} e = go (fitsSample channel v) refl (sym by-test ∙ e)
     where
-      go : (t : Bool) → fitsSample channel v ≡ t → cond t (Number (cond (eqb channel S) (byteOf v) (storedOf 2 (signedOf channel) v))) Outside ≡ Number n
-          → (fitsSample channel v ≡ true) × (cond (eqb channel S) (byteOf v) (storedOf 2 (signedOf channel) v) ≡ n)
-      go true h q = (h, cc)
+      go : (t : Bool) → fitsSample channel v ≡ t → cond t (Number (cond (eqb channel S) (byteOf v) (storedOf 2 (signedOf channel) v))) Outside ≡ Number n → fitsSample channel v ≡ true
+      go true h q = h
       go false h q = impossible (cc)
 
   pub sample-outside : sampleStored channel v ≡ Outside → fitsSample channel v ≡ false
@@ -77,77 +80,123 @@ module _ (channel : ℕ) (v : ℤ) where
       go false h q = h
 
 -- and so the bytes that are put
-module _ (channel : ℕ) (v : ℤ) where
-  pub switch-bytes : {n : ℕ} → channel ≡ S → byteIf v ≡ Number n → encodeSample channel v ≡ n % 256 ∷ []
-  unfolding encodeSample fitsSample
-  switch-bytes {n} e g =
-      let f = sample-found channel v (stored-switch channel v e ∙ g) in
-      let z : byteOf v ≡ n = rw e at (f .1) in
-      let h : byteOf v < 256 = state-byte v (rw (rw e at (f .0)) tt) .0 .0 in
-      let m : byteOf v ≡ n % 256 = omega arith in
-      rw e (ap (λ x. x ∷ []) m)
+module _ (channel : ℕ) (v : ℤ) (h : fitsSample channel v ≡ true) where
+  pub switch-state : channel ≡ S → T (nonNeg v) × Fits w8 (natAbs v)
+  unfolding fitsSample isState
+  switch-state e = state v (rw e at h)
+    where
+      state : (z : ℤ) → (nonNeg z && ltZ z (pos 2)) ≡ true → T (nonNeg z) × Fits w8 (natAbs z)
+      state (pos n) q = (tt, record { fits = omega (arith, ltb-true n 2 q) })
+      state (negsuc n) q = impossible (cc)
 
-  pub wide-bytes : {n : ℕ} → (channel ≡ S → ⊥) → storedIf 2 (signedOf channel) v ≡ Number n → encodeSample channel v ≡ digits 2 n
+  pub switch-bytes : channel ≡ S → encodeSample channel v ≡ natAbs v ∷ []
+  unfolding encodeSample byteOf
+  switch-bytes e = rw e
+
+  pub wide-fits : (channel ≡ S → ⊥) → fits 2 (signedOf channel) v ≡ true
+  unfolding fitsSample
+  wide-fits e = rw (ne-eqb channel S e) at h
+
+  pub wide-bytes : (channel ≡ S → ⊥) → encodeSample channel v ≡ digits 2 (storedOf 2 (signedOf channel) v)
   unfolding encodeSample
-  wide-bytes e g =
-      let f = sample-found channel v (stored-wide channel v e ∙ g) in
-      rw (ne-eqb channel S e) (ap (digits 2) (rw (ne-eqb channel S e) at (f .1)))
+  wide-bytes e = rw (ne-eqb channel S e)
 
-  pub never-outside : fitsSample channel v ≡ true → sampleStored channel v ≡ Outside → ⊥
-  never-outside h g = let f = sample-outside channel v g in impossible (cc)
+-- how far a number is above the least of its channel
+pub above-least : (signed : Bool) (v : ℤ) → v -ℤ valueOf 2 signed 0 ≡ v +ℤ offset 2 signed
+unfolding valueOf offset
+above-least true v = refl
+above-least false v = refl
+
+module _ (signed : Bool) (v : ℤ) where
+  -- no bits are lost where it fits
+  pub above-fits : fits 2 signed v ≡ true → SFits w32 (v +ℤ offset 2 signed) × (T (nonNeg (v +ℤ offset 2 signed)) × Fits w16 (natAbs (v +ℤ offset 2 signed)))
+  unfolding fits
+  above-fits h = within (v +ℤ offset 2 signed) h
+    where
+      within : (z : ℤ) → (nonNeg z && ltZ z (pos (256 ^ 2))) ≡ true → SFits w32 z × (T (nonNeg z) × Fits w16 (natAbs z))
+      within (pos n) q = let g = ltb-true n (256 ^ 2) q in (record { sfits = omega (arith, g) }, (tt, record { fits = omega (arith, g) }))
+      within (negsuc n) q = impossible (cc)
 
 -- ---- A point: the channels from i on, and the values from j on
 
-module _ (ds : List Descriptor) (values : List ℤ) where
+module _ (held : List Bool) (i : ℕ) (h : i < length held) where
+  -- whether channel i is one of them
+  held-by : (t : Bool) → getD held i false ≡ t → heldFrom i (drop i held) ≡ cond t (i ∷ heldFrom (i + 1) (drop (i + 1) held)) (heldFrom (i + 1) (drop (i + 1) held))
+  unfolding heldFrom
+  held-by t e =
+      rw (add-one, drop-cons held i false h) (ap (λ b. cond b (i ∷ heldFrom (suc i) (drop (suc i) held)) (heldFrom (suc i) (drop (suc i) held))) e)
+
+held-none : (held : List Bool) (i : ℕ) → length held ≤ i → heldFrom i (drop i held) ≡ []
+unfolding heldFrom
+held-none held i h = rw (drop-of-length-le held {i = i} h)
+
+module _ (held : List Bool) (values : List ℤ) where
   unfoldable pub left : ℕ → ℕ → List ℕ
-  left i j = encodeEach encodeSample (storedFrom i (drop i ds)) (drop j values)
+  left i j = encodeEach encodeSample (heldFrom i (drop i held)) (drop j values)
 
   unfoldable pub fitting : ℕ → ℕ → Bool
-  fitting i j = fitsEach (storedFrom i (drop i ds)) (drop j values)
+  fitting i j = fitsEach (heldFrom i (drop i held)) (drop j values)
 
   unfoldable pub many : ℕ → ℕ
-  many i = length (storedFrom i (drop i ds))
+  many i = length (heldFrom i (drop i held))
 
   -- a channel that has no value is passed
-  module _ (i j : ℕ) (h : i < length ds) (e : isStored (getD ds i absent) ≡ false) where
+  module _ (i j : ℕ) (h : i < length held) (e : getD held i false ≡ false) where
     pub pass-many : many i ≡ many (i + 1)
     unfolding many
-    pass-many = rw (stored-out ds i h e)
+    pass-many = rw (held-by held i h false e)
 
     pub pass-fitting : fitting i j ≡ fitting (i + 1) j
     unfolding fitting
-    pass-fitting = rw (stored-out ds i h e)
+    pass-fitting = rw (held-by held i h false e)
 
     pub pass-left : left i j ≡ left (i + 1) j
     unfolding left
-    pass-left = rw (stored-out ds i h e)
+    pass-left = rw (held-by held i h false e)
 
   -- a channel that has one takes it
-  module _ (i j : ℕ) (h : i < length ds) (e : isStored (getD ds i absent) ≡ true) where
+  module _ (i j : ℕ) (h : i < length held) (e : getD held i false ≡ true) where
     pub take-many : many i ≡ 1 + many (i + 1)
     unfolding many
-    take-many = rw (stored-in ds i h e) (omega arith)
+    take-many = rw (held-by held i h true e) (omega arith)
 
     module _ (q : j < length values) where
       pub take-fitting : fitting i j ≡ (fitsSample i (getD values j (pos 0)) && fitting (i + 1) (j + 1))
       unfolding fitting fitsEach
-      take-fitting = rw (add-one j, stored-in ds i h e, drop-cons values j (pos 0) q)
+      take-fitting = rw (add-one j, held-by held i h true e, drop-cons values j (pos 0) q)
 
       pub take-left : left i j ≡ encodeSample i (getD values j (pos 0)) ++ left (i + 1) (j + 1)
       unfolding left encodeEach
-      take-left = rw (add-one j, stored-in ds i h e, drop-cons values j (pos 0) q)
+      take-left = rw (add-one j, held-by held i h true e, drop-cons values j (pos 0) q)
 
-  pub many-none : (i : ℕ) → length ds ≤ i → many i ≡ 0
+  pub many-none : (i : ℕ) → length held ≤ i → many i ≡ 0
   unfolding many
-  many-none i h = rw (stored-none ds i h)
+  many-none i h = rw (held-none held i h)
 
-  pub fitting-none : (i j : ℕ) → length ds ≤ i → fitting i j ≡ true
+  pub fitting-none : (i j : ℕ) → length held ≤ i → fitting i j ≡ true
   unfolding fitting fitsEach
-  fitting-none i j h = rw (stored-none ds i h)
+  fitting-none i j h = rw (held-none held i h)
 
-  pub left-none : (i j : ℕ) → length ds ≤ i → left i j ≡ []
+  pub left-none : (i j : ℕ) → length held ≤ i → left i j ≡ []
   unfolding left encodeEach
-  left-none i j h = rw (stored-none ds i h)
+  left-none i j h = rw (held-none held i h)
+
+-- ---- Which channels are stored, when the first i are marked
+
+module _ (held : List Bool) (ds : List Descriptor) where
+  unfoldable pub marking : ℕ → List Bool
+  marking i = take i held ++ map isStored (drop i ds)
+
+  pub marked-all : (i : ℕ) → length ds ≤ i → length held ≤ i → marking i ≡ held
+  unfolding marking
+  marked-all i h q = rw (drop-of-length-le ds {i = i} h, take-all i held q, append-nil)
+
+pub mark-next : (held : List Bool) (ds : List Descriptor) (i : ℕ) (t : Bool) → i < length held → i < length ds → t ≡ isStored (getD ds i absent)
+    → marking held ds i ≡ marking (set held i t) ds (i + 1)
+unfolding marking
+mark-next held ds i t q h e =
+    rw (add-one i, take-suc-set held i t q, drop-cons ds i absent h, e)
+    (sym (append-assoc (take i held) (isStored (getD ds i absent) ∷ []) (map isStored (drop (suc i) ds))))
 
 -- the numbers behind a point's own are not its
 encode-taken : (l : List ℕ) (vs : List ℤ) → encodeEach encodeSample l (take (length l) vs) ≡ encodeEach encodeSample l vs
@@ -158,17 +207,17 @@ encode-taken (channel ∷ l) (v ∷ vs) = ap (λ b. encodeSample channel v ++ b)
 
 -- ---- A row of points: the points from i on, and the values from `from` on
 
-module _ (d : Description) (values : List ℤ) (n : ℕ) where
+module _ (l : List ℕ) (values : List ℤ) (n : ℕ) where
   abbrev k : ℕ
-  k = length (stored d)
+  k = length l
 
   unfoldable pub rowFitting : ℕ → ℕ → Bool
-  rowFitting i from = fitsRow d (n - i) (drop from values)
+  rowFitting i from = fitsRow l (n - i) (drop from values)
 
   unfoldable pub rowLeft : ℕ → ℕ → List ℕ
-  rowLeft i from = flatMap (encodePoint d) (pointsOf (n - i) k (drop from values))
+  rowLeft i from = rowBytes l (n - i) (drop from values)
 
-  pub row-fits : (i from : ℕ) → i < n → rowFitting i from ≡ (fitsEach (stored d) (drop from values) && rowFitting (i + 1) (from + k))
+  pub row-fits : (i from : ℕ) → i < n → rowFitting i from ≡ (fitsEach l (drop from values) && rowFitting (i + 1) (from + k))
   unfolding rowFitting fitsRow
   row-fits i from h = let e : n - i ≡ suc (n - (i + 1)) = omega arith in rw (e, drop-drop k from values)
 
@@ -176,14 +225,14 @@ module _ (d : Description) (values : List ℤ) (n : ℕ) where
   unfolding rowFitting fitsRow
   row-fits-none i from h = let e : n - i ≡ 0 = omega arith in rw e
 
-  pub row-left : (i from : ℕ) → i < n → rowLeft i from ≡ encodeEach encodeSample (stored d) (drop from values) ++ rowLeft (i + 1) (from + k)
-  unfolding rowLeft pointsOf flatMap encodePoint
+  pub row-left : (i from : ℕ) → i < n → rowLeft i from ≡ encodeEach encodeSample l (drop from values) ++ rowLeft (i + 1) (from + k)
+  unfolding rowLeft rowBytes pointsOf flatMap
   row-left i from h =
       let e : n - i ≡ suc (n - (i + 1)) = omega arith in
-      rw (e, drop-drop k from values, encode-taken (stored d) (drop from values))
+      rw (e, drop-drop k from values, encode-taken l (drop from values))
 
   pub row-left-none : (i from : ℕ) → n ≤ i → rowLeft i from ≡ []
-  unfolding rowLeft pointsOf flatMap
+  unfolding rowLeft rowBytes pointsOf flatMap
   row-left-none i from h = let e : n - i ≡ 0 = omega arith in rw e
 
   -- how many values are left
@@ -191,22 +240,17 @@ module _ (d : Description) (values : List ℤ) (n : ℕ) where
   row-many i h = let e : n - i ≡ suc (n - (i + 1)) = omega arith in rw e (omega arith)
 
 -- where no number is stored there is nothing to judge and nothing to write
-empty : (l : List ℕ) → length l ≡ 0 → l ≡ []
-empty [] h = refl
-empty (x ∷ l) h = absurd (omega arith)
+pub fits-nothing : (l : List ℕ) → length l ≡ 0 → (n : ℕ) (vs : List ℤ) → fitsRow l n vs ≡ true
+unfolding fitsRow fitsEach
+fits-nothing [] e zero vs = refl
+fits-nothing [] e (suc n) vs = fits-nothing [] e n vs
+fits-nothing (x ∷ l) e n vs = absurd (omega arith)
 
-module _ (d : Description) (e : length (stored d) ≡ 0) where
-  pub fits-nothing : (n : ℕ) (vs : List ℤ) → fitsRow d n vs ≡ true
-  unfolding fitsRow fitsEach
-  fits-nothing zero vs = refl
-  fits-nothing (suc n) vs = rw (empty (stored d) e) (fits-nothing n (drop 0 vs))
-
-  pub writes-nothing : (n : ℕ) (vs : List ℤ) → flatMap (encodePoint d) (pointsOf n (length (stored d)) vs) ≡ []
-  unfolding flatMap pointsOf encodePoint encodeEach
-  writes-nothing zero vs = refl
-  writes-nothing (suc n) vs =
-      ap (λ l. encodeEach encodeSample l (take (length (stored d)) vs) ++ flatMap (encodePoint d) (pointsOf n (length (stored d)) (drop (length (stored d)) vs))) (empty (stored d) e)
-      ∙ writes-nothing n (drop (length (stored d)) vs)
+pub writes-nothing : (l : List ℕ) → length l ≡ 0 → (n : ℕ) (vs : List ℤ) → rowBytes l n vs ≡ []
+unfolding rowBytes flatMap pointsOf encodeEach
+writes-nothing [] e zero vs = refl
+writes-nothing [] e (suc n) vs = writes-nothing [] e n vs
+writes-nothing (x ∷ l) e n vs = absurd (omega arith)
 
 -- ---- What stands before the points
 
@@ -225,27 +269,61 @@ laid-five s at a b c d e =
     let x : at + 3 + 1 ≡ at + 4 = omega arith in
     record { place = refl; bytes = rw (z, y, x) }
 
--- a description without a flaw, for which there is room, is put
-pub put-there : (d : Description) (s : List ℕ) (at : ℕ) → flawOf 2 d ≡ None → Room s at (encodeDescription 2 d)
-    → putIf 2 d s at ≡ writing (Done (at + length (encodeDescription 2 d))) (puts s at (encodeDescription 2 d))
-unfolding putIf putFlaw putRoom
-put-there d s at e r = rw (e, le-leb (at + length (encodeDescription 2 d)) (length s) (r .enough))
+-- a description that is put aside, where there is room for any
+module _ (d : Description) (s t : List ℕ) (w : Written) (p : writing w t ≡ putIf 2 d s 0) (h : length s ≡ 178) where
+  abbrev bytes : List ℕ
+  bytes = encodeDescription 2 d
 
-module _ (d : Description) (s t : List ℕ) (at : ℕ) (w : Written) (p : writing w t ≡ putIf 2 d s at) (e : flawOf 2 d ≡ None) (r : Room s at (encodeDescription 2 d)) where
-  done : writing w t ≡ writing (Done (at + length (encodeDescription 2 d))) (puts s at (encodeDescription 2 d))
-  done = p ∙ put-there d s at e r
+  short : 0 + length bytes ≤ length s
+  short = omega (arith, h, description-size 2 d)
 
-  answered : w ≡ Done (at + length (encodeDescription 2 d))
-  answered = ap (λ x. x .answer) done
+  aside : (f : Flaw) → flawOf 2 d ≡ f → writing w t ≡ putFlaw f s 0 bytes
+  unfolding putIf
+  aside f e = rw e at p
 
-  pub put-laid : {n : ℕ} → w ≡ Done n → Laid s at (encodeDescription 2 d) t n
-  put-laid {n} q = let a = answered in let z : n ≡ at + length (encodeDescription 2 d) = cc in record { place = z; bytes = ap (λ x. x .bytes) done }
+  done : flawOf 2 d ≡ flaw.None → writing w t ≡ writing (Done (0 + length bytes)) (puts s 0 bytes)
+  unfolding putFlaw putRoom
+  done e = aside flaw.None e ∙ ap (λ x. cond x (writing (Done (0 + length bytes)) (puts s 0 bytes)) (writing NoRoom s)) (le-leb (0 + length bytes) (length s) short)
 
-  pub put-no-flaw : w ≡ Flawed → ⊥
-  put-no-flaw q = let a = answered in impossible (cc)
+  -- how it ended says whether it has a flaw
+  ended : (f : Flaw) → flawOf 2 d ≡ f → ((f ≡ flaw.None) × (w ≡ Done (0 + length bytes))) ⊎ ((f ≡ flaw.None → ⊥) × (w ≡ Flawed))
+  unfolding putFlaw
+  ended flaw.None e = inl (refl, ap (λ x. x .answer) (done e))
+  ended flaw.XOrY e = inr ((λ q. impossible (cc)), ap (λ x. x .answer) (aside flaw.XOrY e))
+  ended flaw.Untidy e = inr ((λ q. impossible (cc)), ap (λ x. x .answer) (aside flaw.Untidy e))
+  ended flaw.OutOfRange e = inr ((λ q. impossible (cc)), ap (λ x. x .answer) (aside flaw.OutOfRange e))
 
-  pub put-has-room : w ≡ NoRoom → ⊥
-  put-has-room q = let a = answered in impossible (cc)
+  finished : {n : ℕ} → w ≡ Done n → (flawOf 2 d ≡ flaw.None) × (n ≡ length bytes)
+  finished {n} q = ⊎-elim (λ e. (e .0, let z = e .1 in let y : n ≡ 0 + length bytes = cc in omega (arith, y))) (λ e. let z = e .1 in impossible (cc)) (ended (flawOf 2 d) refl)
+
+  pub aside-done : {n : ℕ} → w ≡ Done n → (flawOf 2 d ≡ flaw.None) × (n ≤ length t) × (take (n - 0) t ≡ bytes)
+  aside-done {n} q =
+      let f = finished q in
+      let e = ap (λ x. x .bytes) (done (f .0)) in
+      let z : n - 0 ≡ length bytes = omega (arith, f .1) in (
+        f .0,
+        omega (arith, f .1, short, ap length e, length-puts s 0 bytes),
+        ap (λ k. take k t) z ∙ ap (take (length bytes)) (e ∙ puts-is s 0 bytes short) ∙ take-at bytes (drop (0 + length bytes) s) (length bytes) refl,
+      )
+
+  pub aside-flawed : w ≡ Flawed → flawOf 2 d ≡ flaw.None → ⊥
+  aside-flawed q = ⊎-elim (λ e. let z = e .1 in impossible (cc)) (λ e. e .0) (ended (flawOf 2 d) refl)
+
+  pub aside-room : w ≡ NoRoom → ⊥
+  aside-room q = ⊎-elim (λ e. let z = e .1 in impossible (cc)) (λ e. let z = e .1 in impossible (cc)) (ended (flawOf 2 d) refl)
+
+-- and a refusal of it
+refusal : (r : Record) (w : Answer) (out : List ℕ) (f : Flaw) → (f ≡ flaw.None → ⊥) → writing (byFlaw f answers.Room) out ≡ putWhere r out (byFlaw f w)
+unfolding byFlaw putWhere
+refusal r w out flaw.None h = absurd (h refl)
+refusal r w out flaw.XOrY h = refl
+refusal r w out flaw.Untidy h = refl
+refusal r w out flaw.OutOfRange h = refl
+
+pub flawed-written : (d : Description) (count : ℕ) (values : List ℤ) (wanted : Bool) (extended out : List ℕ) → (flawOf 2 d ≡ flaw.None → ⊥)
+    → writing (byFlaw (flawOf 2 d) answers.Room) out ≡ writeOf d count values wanted extended out
+unfolding writeOf check
+flawed-written d count values wanted extended out h = refusal (recordOf d count values wanted extended) (checkValues d count values wanted extended) out (flawOf 2 d) h
 
 -- ---- Extended data that are wanted
 

@@ -139,12 +139,12 @@ module _ (d : Description) where
   row-amount [] h = omega arith
   row-amount (p ∷ ps) h = length-append p (flatten ps) ∙ omega (arith, each-length (stored d) p (h .0), row-amount ps (h .1))
 
-  row-fitting : (points : List (List ℤ)) → All (ValidPoint d) points → fitsRow d (length points) (flatten points) ≡ true
+  row-fitting : (points : List (List ℤ)) → All (ValidPoint d) points → fitsRow (stored d) (length points) (flatten points) ≡ true
   unfolding fitsRow flatten ValidPoint
   row-fitting [] h = refl
   row-fitting (p ∷ ps) h =
       let n : length p ≡ length (stored d) = each-length (stored d) p (h .0) in
-      ap₂ _&&_ (each-fitting (stored d) p (flatten ps) (h .0)) (ap (fitsRow d (length ps)) (drop-at p (flatten ps) (length (stored d)) n) ∙ row-fitting ps (h .1))
+      ap₂ _&&_ (each-fitting (stored d) p (flatten ps) (h .0)) (ap (fitsRow (stored d) (length ps)) (drop-at p (flatten ps) (length (stored d)) n) ∙ row-fitting ps (h .1))
 
 module _ (s : List ℕ) (bytes : Bytes s) (r : Record) (n : ℕ) (e : run fullRecord s ≡ ok r n) where
   valid : Valid r

@@ -1,8 +1,8 @@
 -- Writing a full record: what keeps one from being written, stage by stage, and what becomes of the bytes that a writer is lent.
 use mathlib.Core.Path.{_≡_}
 use mathlib.Core.Bool.{Bool, true, false, not, cond, _&&_}
-use mathlib.Core.List.{List, [], _∷_, _++_}
-use mathlib.Core.Option.{Option, none, some}
+use mathlib.Core.List.{List, [], _∷_, _++_, flatMap}
+use mathlib.Core.Option.{none, some}
 use Prim.Native.Nat.{ℕ, zero, suc, _*_, _<_}
 use lib.Dec.{T, eqb, ltb, leb}
 use lib.IntN.{ℤ}
@@ -10,12 +10,12 @@ use lib.ListN.{length, drop}
 use Rattle.formats.specs.Put.{puts}
 use Rattle.formats.specs.Number.{digits}
 use Rattle.formats.specs.Lent.{Writing, writing}
+use Rattle.formats.specs.Writes.{encodeEach}
 use Rattle.channels.specs.declared.Description.{Description}
-use Rattle.descriptions.specs.Description.{encodeDescription}
 use Rattle.descriptions.specs.Write.{flawOf}
 use Rattle.descriptions.specs.declared.Flaw.{Flaw}
 use Rattle.descriptions.specs.declared.Flaw.the-variants as flaw
-use Rattle.records.specs.Record.{Record, identifierBytes, versionBytes, stored, encode, fitsSample}
+use Rattle.records.specs.Record.{Record, identifierBytes, versionBytes, stored, encodeSample, encode, fitsSample}
 use Rattle.records.specs.Values.{pointsOf}
 use Rattle.records.specs.declared.Written.{Written}
 use Rattle.records.specs.declared.Written.the-variants as written
@@ -44,16 +44,16 @@ fitsEach (channel ∷ l) [] = false
 fitsEach (channel ∷ l) (v ∷ vs) = fitsSample channel v && fitsEach l vs
 
 -- the same for each of n points
-unfoldable pub fitsRow : Description → ℕ → List ℤ → Bool
-fitsRow d zero vs = true
-fitsRow d (suc n) vs = fitsEach (stored d) vs && fitsRow d n (drop (length (stored d)) vs)
+unfoldable pub fitsRow : List ℕ → ℕ → List ℤ → Bool
+fitsRow l zero vs = true
+fitsRow l (suc n) vs = fitsEach l vs && fitsRow l n (drop (length l) vs)
 
 -- the stages behind the description's, in their order: the count, the amount of values, the values, the extended data
 unfoldable pub checkValues : Description → (count : ℕ) (values : List ℤ) (wanted : Bool) (extended : List ℕ) → Written
 checkValues d count values wanted extended =
     cond (ltb 16777215 count) written.CountRange
     (cond (not (eqb (length values) (count * length (stored d)))) written.Amount
-    (cond (not (fitsRow d count values)) written.ValueRange
+    (cond (not (fitsRow (stored d) count values)) written.ValueRange
     (cond (wanted && ltb 65535 (length extended)) written.ExtendedSize
     (written.Record (length (encode (recordOf d count values wanted extended)))))))
 
@@ -84,16 +84,25 @@ writeOf d count values wanted extended out = putWhere (recordOf d count values w
 
 -- ---- The parts, as they are put one behind the other
 
+-- the channels whose mark is set, from channel i on
+unfoldable pub heldFrom : ℕ → List Bool → List ℕ
+heldFrom i [] = []
+heldFrom i (mark ∷ marks) = cond mark (i ∷ heldFrom (suc i) marks) (heldFrom (suc i) marks)
+
+-- n points of some channels
+unfoldable pub rowBytes : List ℕ → (n : ℕ) (values : List ℤ) → List ℕ
+rowBytes l n values = flatMap (encodeEach encodeSample l) (pointsOf n (length l) values)
+
 unfoldable pub openingBytes : (wanted : Bool) (count : ℕ) → List ℕ
 openingBytes wanted count = 0x00 ∷ cond wanted 0x80 0x00 ∷ digits 3 count
 
-unfoldable pub frontBytes : Description → (wanted : Bool) (count : ℕ) → List ℕ
-frontBytes d wanted count = identifierBytes ++ versionBytes ++ encodeDescription 2 d ++ openingBytes wanted count
+unfoldable pub frontBytes : (described : List ℕ) (wanted : Bool) (count : ℕ) → List ℕ
+frontBytes described wanted count = identifierBytes ++ versionBytes ++ described ++ openingBytes wanted count
 
 -- what holds of a record that passed every stage but the room
 pub record Passed (d : Description) (count : ℕ) (values : List ℤ) (wanted : Bool) (extended : List ℕ) : Type 0 where
   pub flawless : flawOf 2 d ≡ flaw.None
   pub counted : count < 16777216
   pub amount : length values ≡ count * length (stored d)
-  pub fitting : fitsRow d count values ≡ true
+  pub fitting : fitsRow (stored d) count values ≡ true
   pub small : T wanted → length extended < 65536

@@ -1,11 +1,11 @@
 -- What passes every stage is a valid record, and its bytes are its parts one behind the other.
 use mathlib.Core.Path.{_≡_, refl, sym, ap, ap₂, _∙_}
 use mathlib.Core.Bool.{Bool, true, false, not, cond, _&&_}
-use mathlib.Core.List.{List, [], _∷_, _++_, flatMap, append-assoc, append-nil}
+use mathlib.Core.List.{List, [], _∷_, _++_, flatMap, map, append-assoc}
 use mathlib.Core.Option.{Option, none, some}
-use Prim.Native.Nat.{ℕ, zero, suc, _+_, _*_, _^_, _≤_, _<_}
+use Prim.Native.Nat.{ℕ, zero, suc, _+_, _*_, _<_}
 use native.Mathlib.Omega.{arith}
-use borrow.Author.Tests.{ltb-true, ltb-false, lt-ltb, le-ltb, eqb-true, eqb-false, eq-eqb, ne-eqb}
+use borrow.Author.Tests.{ltb-false, lt-ltb, le-ltb, eqb-true, eq-eqb, ne-eqb}
 use lib.Dec.{T, eqb, ltb}
 use lib.IntN.{ℤ}
 use lib.ListN.{length, take, drop, length-append}
@@ -15,15 +15,16 @@ use Rattle.formats.specs.Writes.{All, Each, encodeEach}
 use Rattle.channels.specs.Channel.{S, signedOf}
 use Rattle.channels.specs.Stored.{storedOf}
 use Rattle.channels.specs.Switch.{byteOf}
+use Rattle.channels.specs.declared.Descriptor.{Descriptor}
 use Rattle.channels.specs.declared.Description.{Description}
-use Rattle.descriptions.specs.Description.{encodeDescription}
+use Rattle.descriptions.specs.Description.{isStored, encodeDescription}
 use Rattle.descriptions.specs.Write.{flawOf}
 use Rattle.descriptions.specs.WriteLaws.{flawless-valid}
 use Rattle.descriptions.specs.declared.Flaw.{Flaw}
 use Rattle.descriptions.specs.declared.Flaw.the-variants as flaw
-use Rattle.records.specs.Record.{Record, identifierBytes, versionBytes, header, stored, widths, width, encodeSample, encodePoint, openingByte, encodeExtended, encode, fitsSample, ValidPoint, ValidExtended, Valid}
+use Rattle.records.specs.Record.{Record, identifierBytes, versionBytes, storedFrom, stored, widths, width, encodeSample, encodePoint, openingByte, encodeExtended, encode, fitsSample, ValidPoint, ValidExtended, Valid}
 use Rattle.records.specs.Values.{pointsOf}
-use Rattle.records.specs.Write.{recordOf, fitsEach, fitsRow, checkValues, byFlaw, check, openingBytes, frontBytes, Passed}
+use Rattle.records.specs.Write.{recordOf, fitsEach, fitsRow, heldFrom, rowBytes, checkValues, byFlaw, check, openingBytes, frontBytes, Passed}
 use Rattle.records.specs.declared.Written.{Written}
 use Rattle.records.specs.declared.Written.the-variants as written
 
@@ -62,21 +63,27 @@ each-width (channel ∷ l) (v ∷ vs) e =
     length-append (encodeSample channel v) _ ∙ ap₂ _+_ (sample-width channel v) (each-width l vs (both (fitsSample channel v) (fitsEach l vs) e .1))
 
 module _ (d : Description) where
-  pub row-valid : (n : ℕ) (vs : List ℤ) → fitsRow d n vs ≡ true → All (ValidPoint d) (pointsOf n (length (stored d)) vs)
+  pub row-valid : (n : ℕ) (vs : List ℤ) → fitsRow (stored d) n vs ≡ true → All (ValidPoint d) (pointsOf n (length (stored d)) vs)
   unfolding fitsRow pointsOf ValidPoint
   row-valid zero vs e = tt
   row-valid (suc n) vs e =
-      let b = both (fitsEach (stored d) vs) (fitsRow d n (drop (length (stored d)) vs)) e in
+      let b = both (fitsEach (stored d) vs) (fitsRow (stored d) n (drop (length (stored d)) vs)) e in
       (each-valid (stored d) vs (b .0), row-valid n (drop (length (stored d)) vs) (b .1))
 
-  pub row-width : (n : ℕ) (vs : List ℤ) → fitsRow d n vs ≡ true → length (flatMap (encodePoint d) (pointsOf n (length (stored d)) vs)) ≡ n * width d
-  unfolding fitsRow pointsOf flatMap encodePoint width
+  pub row-width : (n : ℕ) (vs : List ℤ) → fitsRow (stored d) n vs ≡ true → length (rowBytes (stored d) n vs) ≡ n * width d
+  unfolding fitsRow rowBytes pointsOf flatMap width
   row-width zero vs e = omega arith
   row-width (suc n) vs e =
-      let b = both (fitsEach (stored d) vs) (fitsRow d n (drop (length (stored d)) vs)) e in
+      let b = both (fitsEach (stored d) vs) (fitsRow (stored d) n (drop (length (stored d)) vs)) e in
       length-append (encodeEach encodeSample (stored d) (take (length (stored d)) vs)) _
       ∙ ap₂ _+_ (each-width (stored d) vs (b .0)) (row-width n (drop (length (stored d)) vs) (b .1))
       ∙ omega arith
+
+-- the channels that are marked as stored are the stored ones
+pub held-stored : (i : ℕ) (ds : List Descriptor) → heldFrom i (map isStored ds) ≡ storedFrom i ds
+unfolding heldFrom storedFrom
+held-stored i [] = refl
+held-stored i (d ∷ ds) = ap (λ l. cond (isStored d) (i ∷ l) l) (held-stored (suc i) ds)
 
 -- ---- The record
 
@@ -102,16 +109,16 @@ module _ (d : Description) (count : ℕ) (values : List ℤ) (wanted : Bool) (ex
   extra = cond wanted (some extended) none
 
   abbrev row : List ℕ
-  row = flatMap (encodePoint d) (pointsOf count (length (stored d)) values)
+  row = rowBytes (stored d) count values
 
   -- its bytes, part by part
-  pub in-parts : encode (recordOf d count values wanted extended) ≡ frontBytes d wanted count ++ (row ++ encodeExtended extra)
-  unfolding encode recordOf frontBytes openingBytes
+  pub in-parts : encode (recordOf d count values wanted extended) ≡ frontBytes (encodeDescription 2 d) wanted count ++ (row ++ encodeExtended extra)
+  unfolding encode encodePoint recordOf rowBytes frontBytes openingBytes
   in-parts = rw (points-many count (length (stored d)) values, opened wanted extended)
       (regroup identifierBytes versionBytes (encodeDescription 2 d) (0x00 ∷ []) (cond wanted 0x80 0x00 ∷ []) (digits 3 count) row (encodeExtended extra))
 
   -- its length
-  pub record-length : fitsRow d count values ≡ true
+  pub record-length : fitsRow (stored d) count values ≡ true
       → length (encodeDescription 2 d) + count * width d + length (encodeExtended extra) + 13 ≡ length (encode (recordOf d count values wanted extended))
   unfolding frontBytes openingBytes
   record-length e =
@@ -130,6 +137,10 @@ module _ (d : Description) (count : ℕ) (values : List ℤ) (wanted : Bool) (ex
   }
 
   -- ---- The stages
+
+  pub flawless-check : flawOf 2 d ≡ flaw.None → check d count values wanted extended ≡ checkValues d count values wanted extended
+  unfolding check byFlaw
+  flawless-check e = rw e
 
   abbrev length-of : ℕ
   length-of = length (encode (recordOf d count values wanted extended))
@@ -153,7 +164,7 @@ module _ (d : Description) (count : ℕ) (values : List ℤ) (wanted : Bool) (ex
   pub passed : {n : ℕ} → check d count values wanted extended ≡ written.Record n → Passed d count values wanted extended × (n ≡ length-of)
   unfolding check checkValues
   passed q =
-      let t = tests (flawOf 2 d) (ltb 16777215 count) (eqb (length values) (count * length (stored d))) (fitsRow d count values) (wanted && ltb 65535 (length extended)) q in (
+      let t = tests (flawOf 2 d) (ltb 16777215 count) (eqb (length values) (count * length (stored d))) (fitsRow (stored d) count values) (wanted && ltb 65535 (length extended)) q in (
         record {
           flawless = t .0;
           counted = omega (arith, ltb-false 16777215 count (t .1));
@@ -185,11 +196,11 @@ module _ (d : Description) (count : ℕ) (values : List ℤ) (wanted : Bool) (ex
       exact : eqb (length values) (count * length (stored d)) ≡ true
       exact = eq-eqb (length values) (count * length (stored d)) amount
 
-      pub at-values : fitsRow d count values ≡ false → answer ≡ written.ValueRange
+      pub at-values : fitsRow (stored d) count values ≡ false → answer ≡ written.ValueRange
       unfolding checkValues
       at-values h = rw (within, exact, h)
 
-      module _ (fitting : fitsRow d count values ≡ true) where
+      module _ (fitting : fitsRow (stored d) count values ≡ true) where
         pub at-extended : wanted ≡ true → 65535 < length extended → answer ≡ written.ExtendedSize
         unfolding checkValues
         at-extended e h = rw (within, exact, fitting, e, lt-ltb 65535 (length extended) h)

@@ -11,7 +11,7 @@ ghost use mathlib.Core.Path.{_≡_};
 ghost use mathlib.Core.Bool.{true, cond};
 ghost use mathlib.Core.Option.{some, none};
 ghost use lib.Dec.{T};
-ghost use mathlib.Core.List.{flatMap};
+ghost use mathlib.Core.List.{map};
 ghost use Prim.Native.Nat.{_+_, _*_, _≤_, _<_};
 ghost use lib.ListN.{length, drop};
 ghost use Rattle.formats.specs.Reader.{readAt, times, run};
@@ -22,15 +22,17 @@ ghost use Rattle.formats.specs.Number.{digits};
 ghost use Rattle.formats.specs.Writes.{encodeEach};
 ghost use Rattle.formats.specs.Laid.{Room, Laid};
 ghost use Rattle.formats.specs.Lent.{writing};
-ghost use Rattle.descriptions.specs.Description.{encodeDescription};
+ghost use Rattle.channels.specs.Channel.{signedOf};
+ghost use Rattle.channels.specs.Stored.{fits, storedOf};
+ghost use Rattle.descriptions.specs.Description.{isStored, encodeDescription};
 ghost use Rattle.descriptions.specs.Write.{flawOf};
 ghost use Rattle.descriptions.specs.declared.Flaw.the-variants.{None};
-ghost use Rattle.records.specs.Record.{sample, point, extension, fullRecord, storedFrom, stored, widths, width, encodeSample, encodePoint, encodeExtended, encode, fitsSample};
-ghost use Rattle.records.specs.Values.{pointsOf};
+ghost use Rattle.records.specs.Record.{sample, point, extension, fullRecord, storedFrom, stored, widths, width, encodeSample, encodeExtended, encode, fitsSample};
 ghost use Rattle.records.specs.Front.{marks, opened, channelled, front};
 ghost use Rattle.records.specs.Layout.{noFront, fronted, nowhereLaid, laidExtension, laidPoints, layoutOf};
 ghost use Rattle.records.specs.Verdict.{numberOf, faultOf, judged, judgedWhole, extendedPlace, extendedSize, restPlace, restSize, pointedAt, placesIn};
-ghost use Rattle.records.specs.Write.{numberOf as writtenNumber, fitsEach, fitsRow, openingBytes, frontBytes, recordOf, checkValues, check, Passed, writeOf};
+ghost use Rattle.records.specs.Write.{numberOf as writtenNumber, fitsEach, fitsRow, heldFrom, rowBytes, openingBytes, frontBytes, recordOf, checkValues, byFlaw, Passed, writeOf};
+ghost use Rattle.records.specs.declared.Written.the-variants as answers;
 ghost use Rattle.records.specs.Points.{sampled, taken, seat, placesAt, switched};
 
 const IDENTIFIER: [u8; 4] = [0x53, 0x44, 0x49, 0x00];
@@ -652,15 +654,28 @@ pub fn written_number(written: Written) -> u8
     }
 }
 
+// Which channels a sample point holds a number of: what the loops over values are lent, where the description would be copied.
+fn stored_channels(d: Description) -> [bool; 16]
+    ensures { λ r. ⌜ (r ≡ map isStored (d .channels)) × (length r ≡ 16) ⌝ }
+{
+    let mut held = [false; 16];
+    let mut i: usize = 0;
+    while i < 16 {
+        let c = d.channels[i];
+        held[i] = descriptions::is_stored(c);
+        i += 1;
+    }
+    held
+}
+
 // How many numbers a sample point holds.
-fn stored_count(d: Description) -> usize
-    ensures { λ r. ⌜ (r ≡ length (stored d)) × (r ≤ 16) ⌝ }
+fn stored_count(held: [bool; 16]) -> usize
+    ensures { λ r. ⌜ (r ≡ length (heldFrom 0 held)) × (r ≤ 16) ⌝ }
 {
     let mut n: usize = 0;
     let mut i: usize = 0;
     while i < 16 {
-        let c = d.channels[i];
-        if descriptions::is_stored(c) {
+        if held[i] {
             n += 1;
         }
         i += 1;
@@ -684,15 +699,14 @@ fn sample_fits(channel: usize, value: i32) -> bool
 }
 
 // Whether the values from a place on are in the ranges of a point's channels.
-fn point_fits(values: &[i32], from: usize, d: Description) -> bool
-    requires { ⌜ from + length (stored d) ≤ length (now values) ⌝ }
-    ensures { λ r. ⌜ r ≡ fitsEach (stored d) (drop from (now (values .entry))) ⌝ }
+fn point_fits(values: &[i32], from: usize, held: &[bool; 16]) -> bool
+    requires { ⌜ (length (now held) ≡ 16) × (from + length (heldFrom 0 (now held)) ≤ length (now values)) ⌝ }
+    ensures { λ r. ⌜ r ≡ fitsEach (heldFrom 0 (now (held .entry))) (drop from (now (values .entry))) ⌝ }
 {
     let mut j = from;
     let mut i: usize = 0;
     while i < 16 {
-        let c = d.channels[i];
-        if descriptions::is_stored(c) {
+        if held[i] {
             let value = values[j];
             if !sample_fits(i, value) {
                 return false;
@@ -705,18 +719,17 @@ fn point_fits(values: &[i32], from: usize, d: Description) -> bool
 }
 
 // The values of n points, point by point.
-fn values_fit(values: &[i32], n: usize, d: Description) -> bool
-    requires { ⌜ (length (now values) ≡ n * length (stored d)) ⌝ }
-    ensures { λ r. ⌜ r ≡ fitsRow d n (now (values .entry)) ⌝ }
+fn values_fit(values: &[i32], n: usize, size: usize, held: &[bool; 16]) -> bool
+    requires { ⌜ (length (now held) ≡ 16) × (size ≡ length (heldFrom 0 (now held))) × (length (now values) ≡ n * length (heldFrom 0 (now held))) ⌝ }
+    ensures { λ r. ⌜ r ≡ fitsRow (heldFrom 0 (now (held .entry))) n (now (values .entry)) ⌝ }
 {
-    let size = stored_count(d);
     if size == 0 {
         return true;
     }
     let mut from: usize = 0;
     let mut i: usize = 0;
     while i < n {
-        if !point_fits(values, from, d) {
+        if !point_fits(values, from, held) {
             return false;
         }
         from += size;
@@ -735,38 +748,38 @@ fn put_pair(out: &mut [u8], at: usize, number: u16) -> usize
     at + 2
 }
 
-// A number of a sample point that fits is put.
+// What is stored for a number that fits its channel: how far it is above the least, which is stored as 0. It isn't tested again.
+fn stored_number(channel: usize, value: i32) -> u16
+    requires { ⌜ fits 2 (signedOf channel) value ≡ true ⌝ }
+    ensures { λ r. ⌜ r ≡ storedOf 2 (signedOf channel) value ⌝ }
+{
+    let least = channels::value_of(Format::Full, channels::is_signed(channel), 0);
+    (value - least) as u16
+}
+
+// A number of a sample point that fits is put: S as its state, any other as what is stored for it.
 fn put_sample(out: &mut [u8], at: usize, channel: usize, value: i32) -> usize
     requires { ⌜ (fitsSample channel value ≡ true) × Room (now out) at (encodeSample channel value) ⌝ }
     ensures { λ r. ⌜ Laid (now (out .entry)) at (encodeSample channel value) (now (out .exit)) r ⌝ }
 {
     if channel == channels::S {
-        match channels::byte_of(value) {
-            Stored::Number(byte) => {
-                out[at] = formats::low(byte as u32);
-                at + 1
-            }
-            Stored::Outside => at, // never: the number fits
-        }
+        out[at] = value as u8;
+        at + 1
     } else {
-        match channels::stored_of(Format::Full, channels::is_signed(channel), value) {
-            Stored::Number(number) => put_pair(out, at, number),
-            Stored::Outside => at, // never: the number fits
-        }
+        put_pair(out, at, stored_number(channel, value))
     }
 }
 
 // A sample point is put from the values that stand from a place on.
-fn put_point(out: &mut [u8], start: usize, values: &[i32], from: usize, d: Description) -> usize
-    requires { ⌜ (from + length (stored d) ≤ length (now values)) × (fitsEach (stored d) (drop from (now values)) ≡ true) × Room (now out) start (encodeEach encodeSample (stored d) (drop from (now values))) ⌝ }
-    ensures { λ r. ⌜ Laid (now (out .entry)) start (encodeEach encodeSample (stored d) (drop from (now (values .entry)))) (now (out .exit)) r ⌝ }
+fn put_point(out: &mut [u8], start: usize, values: &[i32], from: usize, held: &[bool; 16]) -> usize
+    requires { ⌜ (length (now held) ≡ 16) × (from + length (heldFrom 0 (now held)) ≤ length (now values)) × (fitsEach (heldFrom 0 (now held)) (drop from (now values)) ≡ true) × Room (now out) start (encodeEach encodeSample (heldFrom 0 (now held)) (drop from (now values))) ⌝ }
+    ensures { λ r. ⌜ Laid (now (out .entry)) start (encodeEach encodeSample (heldFrom 0 (now (held .entry))) (drop from (now (values .entry)))) (now (out .exit)) r ⌝ }
 {
     let mut at = start;
     let mut j = from;
     let mut i: usize = 0;
     while i < 16 {
-        let c = d.channels[i];
-        if descriptions::is_stored(c) {
+        if held[i] {
             let value = values[j];
             at = put_sample(out, at, i, value);
             j += 1;
@@ -777,11 +790,17 @@ fn put_point(out: &mut [u8], start: usize, values: &[i32], from: usize, d: Descr
 }
 
 // The sample points are put, from values in stored order.
-fn put_points(out: &mut [u8], start: usize, values: &[i32], n: usize, d: Description) -> usize
-    requires { ⌜ (length (now values) ≡ n * length (stored d)) × (fitsRow d n (now values) ≡ true) × Room (now out) start (flatMap (encodePoint d) (pointsOf n (length (stored d)) (now values))) ⌝ }
-    ensures { λ r. ⌜ Laid (now (out .entry)) start (flatMap (encodePoint d) (pointsOf n (length (stored d)) (now (values .entry)))) (now (out .exit)) r ⌝ }
+fn put_points(
+    out: &mut [u8],
+    start: usize,
+    values: &[i32],
+    n: usize,
+    size: usize,
+    held: &[bool; 16],
+) -> usize
+    requires { ⌜ (length (now held) ≡ 16) × (size ≡ length (heldFrom 0 (now held))) × (length (now values) ≡ n * length (heldFrom 0 (now held))) × (fitsRow (heldFrom 0 (now held)) n (now values) ≡ true) × Room (now out) start (rowBytes (heldFrom 0 (now held)) n (now values)) ⌝ }
+    ensures { λ r. ⌜ Laid (now (out .entry)) start (rowBytes (heldFrom 0 (now (held .entry))) n (now (values .entry))) (now (out .exit)) r ⌝ }
 {
-    let size = stored_count(d);
     if size == 0 {
         return start;
     }
@@ -789,7 +808,7 @@ fn put_points(out: &mut [u8], start: usize, values: &[i32], n: usize, d: Descrip
     let mut from: usize = 0;
     let mut i: usize = 0;
     while i < n {
-        at = put_point(out, at, values, from, d);
+        at = put_point(out, at, values, from, held);
         from += size;
         i += 1;
     }
@@ -822,20 +841,17 @@ fn put_opening(out: &mut [u8], at: usize, wanted: bool, count: usize) -> usize
     at + 5
 }
 
-// All that stands before the points is put.
-fn put_front(out: &mut [u8], d: Description, wanted: bool, count: usize) -> usize
-    requires { ⌜ (flawOf 2 d ≡ None) × (count < 16777216) × Room (now out) 0 (frontBytes d wanted count) ⌝ }
-    ensures { λ r. ⌜ Laid (now (out .entry)) 0 (frontBytes d wanted count) (now (out .exit)) r ⌝ }
+// All that stands before the points is put, from the bytes of the description.
+fn put_front(out: &mut [u8], described: &[u8], wanted: bool, count: usize) -> usize
+    requires { ⌜ (count < 16777216) × Room (now out) 0 (frontBytes (now described) wanted count) ⌝ }
+    ensures { λ r. ⌜ Laid (now (out .entry)) 0 (frontBytes (now (described .entry)) wanted count) (now (out .exit)) r ⌝ }
 {
     let identifier = IDENTIFIER;
     let version = VERSION;
     let at = put_bytes(out, 0, &identifier);
     let at = put_bytes(out, at, &version);
-    match descriptions::put(out, at, d, Format::Full) {
-        descriptions::Written::Done(next) => put_opening(out, next, wanted, count),
-        descriptions::Written::Flawed => at, // never: the description has no flaw
-        descriptions::Written::NoRoom => at, // never: there is room for the record
-    }
+    let at = put_bytes(out, at, described);
+    put_opening(out, at, wanted, count)
 }
 
 // Extended data that are wanted are put behind their length.
@@ -850,13 +866,12 @@ fn put_extension(out: &mut [u8], at: usize, wanted: bool, extended: &[u8]) -> us
     put_bytes(out, next, extended)
 }
 
-// How many bytes a record has that passed every stage but the last.
-fn record_size(d: Description, count: usize, wanted: bool, extended: &[u8]) -> usize
-    requires { ⌜ (count < 16777216) × (T wanted → length (now extended) < 65536) ⌝ }
-    ensures { λ r. ⌜ r ≡ length (encodeDescription 2 d) + count * width d + length (encodeExtended (cond wanted (some (now (extended .entry))) none)) + 13 ⌝ }
+// How many bytes a record has that passed every stage but the last, by the size of its description and of a point.
+fn record_size(described: usize, width: usize, count: usize, wanted: bool, extended: &[u8]) -> usize
+    requires { ⌜ (described ≤ 178) × (width < 33) × (count < 16777216) × (T wanted → length (now extended) < 65536) ⌝ }
+    ensures { λ r. ⌜ r ≡ described + count * width + length (encodeExtended (cond wanted (some (now (extended .entry))) none)) + 13 ⌝ }
 {
-    let points = count * width_from(d, 0);
-    let front = descriptions::size(d, Format::Full) + points;
+    let front = described + count * width;
     if wanted {
         return front + (extended.len() + 2) + 13;
     }
@@ -866,20 +881,24 @@ fn record_size(d: Description, count: usize, wanted: bool, extended: &[u8]) -> u
 // The stages behind the description's: the count, the amount of values, the values, the extended data.
 fn check_values(
     d: Description,
+    described: usize,
     count: usize,
     values: &[i32],
     wanted: bool,
     extended: &[u8],
 ) -> Written
+    requires { ⌜ described ≡ length (encodeDescription 2 d) ⌝ }
     ensures { λ r. ⌜ r ≡ checkValues d count (now (values .entry)) wanted (now (extended .entry)) ⌝ }
 {
     if 16777215 < count {
         return Written::CountRange;
     }
-    if values.len() != count * stored_count(d) {
+    let held = stored_channels(d);
+    let size = stored_count(held);
+    if values.len() != count * size {
         return Written::Amount;
     }
-    if !values_fit(values, count, d) {
+    if !values_fit(values, count, size, &held) {
         return Written::ValueRange;
     }
     if wanted {
@@ -888,19 +907,7 @@ fn check_values(
         }
     }
     Written::Record {
-        length: record_size(d, count, wanted, extended),
-    }
-}
-
-// All stages but the room, the description's own first.
-fn checked(d: Description, count: usize, values: &[i32], wanted: bool, extended: &[u8]) -> Written
-    ensures { λ r. ⌜ r ≡ check d count (now (values .entry)) wanted (now (extended .entry)) ⌝ }
-{
-    match descriptions::flaw_of(d, Format::Full) {
-        Flaw::None => check_values(d, count, values, wanted, extended),
-        Flaw::XOrY => Written::XOrY,
-        Flaw::Untidy => Written::Untidy,
-        Flaw::OutOfRange => Written::AttributeRange,
+        length: record_size(described, width_from(d, 0), count, wanted, extended),
     }
 }
 
@@ -908,38 +915,42 @@ fn checked(d: Description, count: usize, values: &[i32], wanted: bool, extended:
 fn put_record(
     out: &mut [u8],
     d: Description,
+    described: &[u8],
     count: usize,
     values: &[i32],
     wanted: bool,
     extended: &[u8],
 ) -> usize
-    requires { ⌜ Passed d count (now values) wanted (now extended) × Room (now out) 0 (encode (recordOf d count (now values) wanted (now extended))) ⌝ }
+    requires { ⌜ (now described ≡ encodeDescription 2 d) × Passed d count (now values) wanted (now extended) × Room (now out) 0 (encode (recordOf d count (now values) wanted (now extended))) ⌝ }
     ensures { λ r. ⌜ Laid (now (out .entry)) 0 (encode (recordOf d count (now (values .entry)) wanted (now (extended .entry)))) (now (out .exit)) r ⌝ }
 {
-    let at = put_front(out, d, wanted, count);
-    let at = put_points(out, at, values, count, d);
+    let at = put_front(out, described, wanted, count);
+    let held = stored_channels(d);
+    let size = stored_count(held);
+    let at = put_points(out, at, values, count, size, &held);
     put_extension(out, at, wanted, extended)
 }
 
-// A record is written from a description, a count, values in stored order and, where they are wanted, extended data.
-// On a refusal the output is as it was; on success only its first bytes change.
-pub fn write(
-    description: Description,
+// The stages behind the description's, and the room; then the record is put.
+fn write_described(
+    d: Description,
+    described: &[u8],
     count: usize,
     values: &[i32],
     wanted: bool,
     extended: &[u8],
     out: &mut [u8],
 ) -> Written
-    ensures { λ r. ⌜ writing r (now (out .exit)) ≡ writeOf description count (now (values .entry)) wanted (now (extended .entry)) (now (out .entry)) ⌝ }
+    requires { ⌜ (flawOf 2 d ≡ None) × (now described ≡ encodeDescription 2 d) ⌝ }
+    ensures { λ r. ⌜ writing r (now (out .exit)) ≡ writeOf d count (now (values .entry)) wanted (now (extended .entry)) (now (out .entry)) ⌝ }
 {
-    let answer = checked(description, count, values, wanted, extended);
+    let answer = check_values(d, described.len(), count, values, wanted, extended);
     match answer {
         Written::Record { length } => {
             if out.len() < length {
                 return Written::Room;
             }
-            put_record(out, description, count, values, wanted, extended);
+            put_record(out, d, described, count, values, wanted, extended);
             answer
         }
         Written::XOrY => answer,
@@ -950,5 +961,41 @@ pub fn write(
         Written::ValueRange => answer,
         Written::ExtendedSize => answer,
         Written::Room => answer,
+    }
+}
+
+// The refusal of a description that has a flaw.
+fn flawed(d: Description) -> Written
+    ensures { λ r. ⌜ r ≡ byFlaw (flawOf 2 d) answers.Room ⌝ }
+{
+    match descriptions::flaw_of(d, Format::Full) {
+        Flaw::None => Written::Room, // not asked of one without a flaw
+        Flaw::XOrY => Written::XOrY,
+        Flaw::Untidy => Written::Untidy,
+        Flaw::OutOfRange => Written::AttributeRange,
+    }
+}
+
+// A record is written from a description, a count, values in stored order and, where they are wanted, extended data.
+// On a refusal the output is as it was; on success only its first bytes change.
+// The description is put aside first, which judges it: so it is judged once.
+pub fn write(
+    description: Description,
+    count: usize,
+    values: &[i32],
+    wanted: bool,
+    extended: &[u8],
+    out: &mut [u8],
+) -> Written
+    ensures { λ r. ⌜ writing r (now (out .exit)) ≡ writeOf description count (now (values .entry)) wanted (now (extended .entry)) (now (out .entry)) ⌝ }
+{
+    let mut room: [u8; 178] = [0; 178]; // two inclusion bytes, and eleven for each of sixteen channels
+    match descriptions::put(&mut room, 0, description, Format::Full) {
+        descriptions::Written::Done(end) => {
+            let described = &room[0..end];
+            write_described(description, described, count, values, wanted, extended, out)
+        }
+        descriptions::Written::Flawed => flawed(description),
+        descriptions::Written::NoRoom => Written::Room, // never: no description is longer
     }
 }

@@ -6,52 +6,45 @@ use Prim.Native.Nat.{_≤_, _<_, _-_, _+_}
 use native.Mathlib.Omega.{arith}
 use borrow.Author.Needs.{needs}
 use borrow.Author.Tests.{not-true, not-false}
-use lib.ListN.{length, drop, getD, length-map}
+use lib.ListN.{length, drop, getD}
 use mir.Syntax.{w32}
 use mir.ValLaws.{toZ-ofZ}
 use lib.IntN.{pos}
-use Rattle.descriptions.specs.Description.{absent, isStored}
-use Rattle.records.specs.Record.{stored, fitsSample}
-use Rattle.records.specs.Write.{fitsEach}
-use Rattle.records.proofs.Laying.{many, fitting, pass-many, pass-fitting, take-many, take-fitting, many-none, fitting-none}
+use Rattle.records.specs.Record.{fitsSample}
+use Rattle.records.specs.Write.{fitsEach, heldFrom}
+use Rattle.records.proofs.Laying.{many, fitting, pass-many, pass-fitting, take-many, take-fitting, fitting-none}
 use Rattle.records.proofs.point_fits.Statement.{statement}
 use Rattle.records.proofs.point_fits.Tie as tie
 
 abbrev Inv-loop : tie.InvT-loop
-Inv-loop values from d j₀ i₀ j i = (i ≤ 16) × (from + length (stored d) ≡ j + many (d .channels) values i) × (fitsEach (stored d) (drop from values) ≡ fitting (d .channels) values i j)
+Inv-loop values from held j₀ i₀ j i = (i ≤ 16) × (from + length (heldFrom 0 held) ≡ j + many held values i) × (fitsEach (heldFrom 0 held) (drop from values) ≡ fitting held values i j)
 
 abbrev μ-loop : tie.MeasureT-loop
-μ-loop values from d j₀ i₀ j i = 16 - i
+μ-loop values from held j₀ i₀ j i = 16 - i
 
-sixteen : (s : tie.Start Inv-loop μ-loop) → length (s .args .t3 .channels) ≡ 16
-sixteen s = simp length-map at (s .good .1 .1 .0 .1 .1 .0 .1 .0 .1)
+sixteen : (s : tie.Start Inv-loop μ-loop) → length (s .args .held .now) ≡ 16
+sixteen s = s .pre .0
 
 loop-holds : tie.Need-loop-holds Inv-loop μ-loop
-unfolding stored many fitting
+unfolding many fitting
 loop-holds c = (omega arith, omega arith, refl)
 
-mul-c : tie.Need-mul-c Inv-loop μ-loop
-mul-c c = search needs
-
-element-copy-out-c : tie.Need-element-copy-out-c Inv-loop μ-loop
-element-copy-out-c c = search needs
-
-is-stored-requires : tie.Need-is-stored-requires Inv-loop μ-loop
-is-stored-requires c κs = search needs
+element-copy-out-if1 : tie.Need-element-copy-out-if1 Inv-loop μ-loop
+element-copy-out-if1 c = search needs
 
 -- the next value is there
 module _ (c : tie.Then1 Inv-loop μ-loop) where
   abbrev turn : tie.At-loop Inv-loop μ-loop
-  turn = c .before .before .before .before
+  turn = c .before .before .before
 
-  within : turn .loop .i < length (turn .before .args .t3 .channels)
+  within : turn .loop .i < length (turn .before .args .held .now)
   within = omega (arith, sixteen (turn .before))
 
-  is-stored : isStored (getD (turn .before .args .t3 .channels) (turn .loop .i) absent) ≡ true
-  is-stored = sym (c .before .is-stored .ensures) ∙ c .if1 .taken
+  is-held : getD (turn .before .args .held .now) (turn .loop .i) false ≡ true
+  is-held = c .if1 .taken
 
   there : turn .loop .j < length (turn .before .args .values .now)
-  there = omega (arith, turn .loop .inv .1, turn .before .pre, take-many (turn .before .args .t3 .channels) (turn .before .args .values .now) (turn .loop .i) 0 within is-stored)
+  there = omega (arith, turn .loop .inv .1, turn .before .pre .1, take-many (turn .before .args .held .now) (turn .before .args .values .now) (turn .loop .i) 0 within is-held)
 
 mul-value : tie.Need-mul-value Inv-loop μ-loop
 mul-value c = let h = there c in search needs
@@ -74,7 +67,7 @@ returns c =
     let v = c .before .before .before in
     let l = turn v in
     let a = l .before .args in
-    sym (l .loop .inv .2 ∙ take-fitting (a .t3 .channels) (a .values .now) (l .loop .i) (l .loop .j) (within v) (is-stored v) (there v) ∙ ap (λ x. x && fitting (a .t3 .channels) (a .values .now) (l .loop .i + 1) (l .loop .j + 1)) (sym (verdict (c .before)) ∙ not-true _ (c .if2 .taken)))
+    sym (l .loop .inv .2 ∙ take-fitting (a .held .now) (a .values .now) (l .loop .i) (l .loop .j) (within v) (is-held v) (there v) ∙ ap (λ x. x && fitting (a .held .now) (a .values .now) (l .loop .i + 1) (l .loop .j + 1)) (sym (verdict (c .before)) ∙ not-true _ (c .if2 .taken)))
 
 add-j : tie.Need-add-j Inv-loop μ-loop
 add-j c = let h = there (c .before .before .before) in record { fits = omega arith }
@@ -88,7 +81,7 @@ loop-less c = omega arith
 loop-again : tie.Need-loop-again Inv-loop μ-loop
 loop-again c =
     let b = c .before in
-    let l = b .before .before .before in
+    let l = b .before .before in
     let a = l .before .args in
     ⊎-elim
     (λ w.
@@ -97,21 +90,21 @@ loop-again c =
     let f = sym (verdict v) ∙ not-false _ (w .3 .left) in
     rw (w .4) (
       omega arith,
-      omega (arith, l .loop .inv .1, take-many (a .t3 .channels) (a .values .now) (l .loop .i) 0 (within t) (is-stored t)),
+      omega (arith, l .loop .inv .1, take-many (a .held .now) (a .values .now) (l .loop .i) 0 (within t) (is-held t)),
       l .loop .inv .2
-          ∙ take-fitting (a .t3 .channels) (a .values .now) (l .loop .i) (l .loop .j) (within t) (is-stored t) (there t)
-          ∙ ap (λ x. x && fitting (a .t3 .channels) (a .values .now) (l .loop .i + 1) (l .loop .j + 1)) f,
+          ∙ take-fitting (a .held .now) (a .values .now) (l .loop .i) (l .loop .j) (within t) (is-held t) (there t)
+          ∙ ap (λ x. x && fitting (a .held .now) (a .values .now) (l .loop .i + 1) (l .loop .j + 1)) f,
     ))
     (λ w.
-    let h : l .loop .i < length (a .t3 .channels) = omega (arith, sixteen (l .before)) in
-    let e = sym (b .is-stored .ensures) ∙ w .0 .left in
-    rw (w .1) (omega arith, omega (arith, l .loop .inv .1, pass-many (a .t3 .channels) (a .values .now) (l .loop .i) 0 h e), l .loop .inv .2 ∙ pass-fitting (a .t3 .channels) (a .values .now) (l .loop .i) (l .loop .j) h e))
+    let h : l .loop .i < length (a .held .now) = omega (arith, sixteen (l .before)) in
+    let e = w .0 .left in
+    rw (w .1) (omega arith, omega (arith, l .loop .inv .1, pass-many (a .held .now) (a .values .now) (l .loop .i) 0 h e), l .loop .inv .2 ∙ pass-fitting (a .held .now) (a .values .now) (l .loop .i) (l .loop .j) h e))
     (c .if1 .came)
 
 returns-2 : tie.Need-returns-2 Inv-loop μ-loop
 returns-2 c =
     let l = c .before in
-    sym (l .loop .inv .2 ∙ fitting-none (l .before .args .t3 .channels) (l .before .args .values .now) (l .loop .i) (l .loop .j) (omega (arith, sixteen (l .before))))
+    sym (l .loop .inv .2 ∙ fitting-none (l .before .args .held .now) (l .before .args .values .now) (l .loop .i) (l .loop .j) (omega (arith, sixteen (l .before))))
 
 pub point-fits-spec : {M : Type 1} → statement M
 point-fits-spec =
@@ -120,9 +113,7 @@ point-fits-spec =
     Inv-loop
     μ-loop
     loop-holds
-    mul-c
-    element-copy-out-c
-    is-stored-requires
+    element-copy-out-if1
     mul-value
     shared-slice-copy-out-value
     sample-fits-requires

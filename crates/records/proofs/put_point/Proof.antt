@@ -1,77 +1,71 @@
 -- `records::put_point` meets its contract. The invariant: what is left to lay of the point makes of these bytes what all of it makes of those at the start.
-use mathlib.Core.Path.{_≡_, refl, sym, ap, _∙_}
-use mathlib.Core.Bool.{true, false, _&&_}
+use mathlib.Core.Path.{_≡_, sym, _∙_}
+use mathlib.Core.Bool.{true, false}
 use mathlib.Core.List.{_++_}
 use mathlib.Core.Logic.{⊎-elim}
 use Prim.Native.Nat.{_≤_, _<_, _-_, _+_}
 use native.Mathlib.Omega.{arith}
 use borrow.Author.Needs.{needs}
 use lib.IntN.{pos}
-use lib.ListN.{length, drop, getD, length-map}
+use lib.ListN.{length, drop, getD}
 use mir.Syntax.{w32}
 use mir.Val.{toZ, ofZ}
 use mir.ValLaws.{toZ-ofZ}
-use Rattle.formats.specs.Laid.{Owed, Laid, owed-all, owed-next, owed-none, owed-room, room-first}
+use Rattle.formats.specs.Laid.{Owed, owed-all, owed-next, owed-none, owed-room, room-first}
 use Rattle.formats.specs.Writes.{encodeEach}
-use Rattle.descriptions.specs.Description.{absent, isStored}
-use Rattle.records.specs.Record.{stored, encodeSample, fitsSample}
+use Rattle.records.specs.Record.{encodeSample, fitsSample}
+use Rattle.records.specs.Write.{heldFrom}
 use Rattle.records.proofs.Laying.{many, fitting, left, pass-many, pass-fitting, pass-left, take-many, take-fitting, take-left, left-none}
 use Rattle.records.specs.WriteLaws.{both}
 use Rattle.records.proofs.put_point.Statement.{statement}
 use Rattle.records.proofs.put_point.Tie as tie
 
 abbrev Inv-loop : tie.InvT-loop
-Inv-loop out₀ start values from d at₀ j₀ i₀ out at j i = (i ≤ 16) × (from + length (stored d) ≡ j + many (d .channels) values i) × (fitting (d .channels) values i j ≡ true) × Owed out₀ start (encodeEach encodeSample (stored d) (drop from values)) out at (left (d .channels) values i j)
+Inv-loop out₀ start values from held at₀ j₀ i₀ out at j i = (i ≤ 16) × (from + length (heldFrom 0 held) ≡ j + many held values i) × (fitting held values i j ≡ true) × Owed out₀ start (encodeEach encodeSample (heldFrom 0 held) (drop from values)) out at (left held values i j)
 
 abbrev μ-loop : tie.MeasureT-loop
-μ-loop out₀ start values from d at₀ j₀ i₀ out at j i = 16 - i
+μ-loop out₀ start values from held at₀ j₀ i₀ out at j i = 16 - i
 
-sixteen : (s : tie.Start Inv-loop μ-loop) → length (s .args .t5 .channels) ≡ 16
-sixteen s = simp length-map at (s .good .1 .1 .1 .1 .0 .1 .1 .0 .1 .0 .1)
+sixteen : (s : tie.Start Inv-loop μ-loop) → length (s .args .held .now) ≡ 16
+sixteen s = s .pre .0
 
 loop-holds : tie.Need-loop-holds Inv-loop μ-loop
-unfolding stored many fitting left
-loop-holds c = (omega arith, omega arith, c .before .pre .1, owed-all _ _ _)
+unfolding many fitting left
+loop-holds c = (omega arith, omega arith, c .before .pre .2, owed-all _ _ _)
 
-mul-c : tie.Need-mul-c Inv-loop μ-loop
-mul-c c = search needs
-
-element-copy-out-c : tie.Need-element-copy-out-c Inv-loop μ-loop
-element-copy-out-c c = search needs
-
-is-stored-requires : tie.Need-is-stored-requires Inv-loop μ-loop
-is-stored-requires c κs = search needs
+element-copy-out-if1 : tie.Need-element-copy-out-if1 Inv-loop μ-loop
+element-copy-out-if1 c = search needs
 
 -- the next value is there, it fits, and its bytes come next
 module _ (c : tie.Then1 Inv-loop μ-loop) where
   abbrev turn : tie.At-loop Inv-loop μ-loop
-  turn = c .before .before .before .before
+  turn = c .before .before .before
 
   abbrev value : lib.IntN.ℤ
   value = getD (turn .before .before .args .values .now) (turn .loop .j) (pos 0)
 
-  within : turn .loop .i < length (turn .before .before .args .t5 .channels)
+  within : turn .loop .i < length (turn .before .before .args .held .now)
   within = omega (arith, sixteen (turn .before .before))
 
-  is-stored : isStored (getD (turn .before .before .args .t5 .channels) (turn .loop .i) absent) ≡ true
-  is-stored = sym (c .before .is-stored .ensures) ∙ c .if1 .taken
+  is-held : getD (turn .before .before .args .held .now) (turn .loop .i) false ≡ true
+  is-held = c .if1 .taken
 
   there : turn .loop .j < length (turn .before .before .args .values .now)
-  there = omega (arith, turn .loop .inv .1, turn .before .before .pre .0, take-many (turn .before .before .args .t5 .channels) (turn .before .before .args .values .now) (turn .loop .i) 0 within is-stored)
+  there = omega (arith, turn .loop .inv .1, turn .before .before .pre .1, take-many (turn .before .before .args .held .now) (turn .before .before .args .values .now) (turn .loop .i) 0 within is-held)
 
-  fits : (fitsSample (turn .loop .i) value ≡ true) × (fitting (turn .before .before .args .t5 .channels) (turn .before .before .args .values .now) (turn .loop .i + 1) (turn .loop .j + 1) ≡ true)
+  fits : (fitsSample (turn .loop .i) value ≡ true) × (fitting (turn .before .before .args .held .now) (turn .before .before .args .values .now) (turn .loop .i + 1) (turn .loop .j + 1) ≡ true)
   fits =
       let a = turn .before .before .args in
-      both _ _ (sym (take-fitting (a .t5 .channels) (a .values .now) (turn .loop .i) (turn .loop .j) within is-stored there) ∙ turn .loop .inv .2)
+      both _ _ (sym (take-fitting (a .held .now) (a .values .now) (turn .loop .i) (turn .loop .j) within is-held there) ∙ turn .loop .inv .2)
 
   owed : Owed
       (turn .before .before .args .out .now)
       (turn .before .before .args .start)
-      (encodeEach encodeSample (stored (turn .before .before .args .t5)) (drop (turn .before .before .args .from) (turn .before .before .args .values .now)))
+      (encodeEach encodeSample (heldFrom 0 (turn .before .before .args .held .now)) (drop (turn .before .before .args .from) (turn .before .before .args .values .now)))
       (turn .loop .out)
       (turn .loop .at)
-      (encodeSample (turn .loop .i) value ++ left (turn .before .before .args .t5 .channels) (turn .before .before .args .values .now) (turn .loop .i + 1) (turn .loop .j + 1))
-  owed = let a = turn .before .before .args in rw (take-left (a .t5 .channels) (a .values .now) (turn .loop .i) (turn .loop .j) within is-stored there) at (turn .loop .inv .3)
+      (encodeSample (turn .loop .i) value ++ left (turn .before .before .args .held .now) (turn .before .before .args .values .now) (turn .loop .i + 1) (turn .loop .j + 1))
+  owed = let a = turn .before .before .args in rw (take-left (a .held .now) (a .values .now) (turn .loop .i) (turn .loop .j) within is-held there) at (turn .loop .inv .3)
 
 -- the value as the machine has it
 read : (c : tie.After-value Inv-loop μ-loop) → toZ w32 (ofZ w32 (value (c .before))) ≡ value (c .before)
@@ -86,7 +80,7 @@ shared-slice-copy-out-value c = there c
 put-sample-requires : tie.Need-put-sample-requires Inv-loop μ-loop
 put-sample-requires c κs =
     let t = c .before .before in
-    rw (read (c .before)) (fits t .0, room-first _ _ (owed-room (owed t) (turn t .before .before .pre .2)))
+    rw (read (c .before)) (fits t .0, room-first _ _ (owed-room (owed t) (turn t .before .before .pre .3)))
 
 add-j : tie.Need-add-j Inv-loop μ-loop
 add-j c = let h = there (c .before .before .before .before .before) in record { fits = omega arith }
@@ -100,7 +94,7 @@ loop-less c = omega arith
 loop-again : tie.Need-loop-again Inv-loop μ-loop
 loop-again c =
     let b = c .before in
-    let l = b .before .before .before in
+    let l = b .before .before in
     let a = l .before .before .args in
     ⊎-elim
     (λ w.
@@ -108,18 +102,18 @@ loop-again c =
     let laid = rw (read (record { before = t; value = w .1 })) at (w .3 .ensures) in
     rw (w .6, w .7, w .8) (
       omega arith,
-      omega (arith, l .loop .inv .1, take-many (a .t5 .channels) (a .values .now) (l .loop .i) 0 (within t) (is-stored t)),
+      omega (arith, l .loop .inv .1, take-many (a .held .now) (a .values .now) (l .loop .i) 0 (within t) (is-held t)),
       fits t .1,
       owed-next (owed t) laid,
     ))
     (λ w.
-    let h : l .loop .i < length (a .t5 .channels) = omega (arith, sixteen (l .before .before)) in
-    let e = sym (b .is-stored .ensures) ∙ w .0 .left in
+    let h : l .loop .i < length (a .held .now) = omega (arith, sixteen (l .before .before)) in
+    let e = w .0 .left in
     rw (w .1, w .2, w .3) (
       omega arith,
-      omega (arith, l .loop .inv .1, pass-many (a .t5 .channels) (a .values .now) (l .loop .i) 0 h e),
-      sym (pass-fitting (a .t5 .channels) (a .values .now) (l .loop .i) (l .loop .j) h e) ∙ l .loop .inv .2,
-      rw (pass-left (a .t5 .channels) (a .values .now) (l .loop .i) (l .loop .j) h e) at (l .loop .inv .3),
+      omega (arith, l .loop .inv .1, pass-many (a .held .now) (a .values .now) (l .loop .i) 0 h e),
+      sym (pass-fitting (a .held .now) (a .values .now) (l .loop .i) (l .loop .j) h e) ∙ l .loop .inv .2,
+      rw (pass-left (a .held .now) (a .values .now) (l .loop .i) (l .loop .j) h e) at (l .loop .inv .3),
     ))
     (c .if1 .came)
 
@@ -130,7 +124,7 @@ returns : tie.Need-returns Inv-loop μ-loop
 returns c =
     let l = c .before in
     let a = l .before .before .args in
-    owed-none (rw (left-none (a .t5 .channels) (a .values .now) (l .loop .i) (l .loop .j) (omega (arith, sixteen (l .before .before)))) at (l .loop .inv .3))
+    owed-none (rw (left-none (a .held .now) (a .values .now) (l .loop .i) (l .loop .j) (omega (arith, sixteen (l .before .before)))) at (l .loop .inv .3))
 
 pub put-point-spec : {M : Type 1} → statement M
 put-point-spec =
@@ -139,9 +133,7 @@ put-point-spec =
     Inv-loop
     μ-loop
     loop-holds
-    mul-c
-    element-copy-out-c
-    is-stored-requires
+    element-copy-out-if1
     mul-value
     shared-slice-copy-out-value
     put-sample-requires

@@ -1,73 +1,69 @@
 -- `records::put_points` meets its contract. The invariant: what is left to lay of the row makes of these bytes what all of it makes of those at the start.
-use mathlib.Core.Path.{_≡_, refl, sym, ap, _∙_}
+use mathlib.Core.Path.{_≡_, sym, _∙_}
 use mathlib.Core.Bool.{true}
-use mathlib.Core.List.{_++_, flatMap}
+use mathlib.Core.List.{_++_}
 use Prim.Native.Nat.{_≤_, _-_, _+_, _*_}
 use native.Mathlib.Nat.{sub-zero}
 use native.Mathlib.Omega.{arith}
-use borrow.Author.Needs.{needs}
 use lib.ListN.{length, drop}
 use Rattle.formats.specs.Laid.{Owed, owed-all, owed-next, owed-none, owed-room, room-first, laid-none}
 use Rattle.formats.specs.Writes.{encodeEach}
-use Rattle.records.specs.Record.{stored, encodeSample, encodePoint}
-use Rattle.records.specs.Values.{pointsOf}
-use Rattle.records.specs.Write.{fitsEach}
+use Rattle.records.specs.Record.{encodeSample}
+use Rattle.records.specs.Write.{fitsEach, heldFrom, rowBytes}
 use Rattle.records.proofs.Laying.{rowFitting, rowLeft, row-fits, row-left, row-left-none, row-many, writes-nothing}
 use Rattle.records.specs.WriteLaws.{both}
 use Rattle.records.proofs.put_points.Statement.{statement}
 use Rattle.records.proofs.put_points.Tie as tie
 
 abbrev Inv-loop : tie.InvT-loop
-Inv-loop out₀ start values n d size at₀ from₀ i₀ out at from i = (i ≤ n) × (size ≡ length (stored d)) × (from + (n - i) * length (stored d) ≡ length values) × (rowFitting d values n i from ≡ true) × Owed out₀ start (flatMap (encodePoint d) (pointsOf n (length (stored d)) values)) out at (rowLeft d values n i from)
+Inv-loop out₀ start values n size held at₀ from₀ i₀ out at from i = (i ≤ n) × (from + (n - i) * length (heldFrom 0 held) ≡ length values) × (rowFitting (heldFrom 0 held) values n i from ≡ true) × Owed out₀ start (rowBytes (heldFrom 0 held) n values) out at (rowLeft (heldFrom 0 held) values n i from)
 
 abbrev μ-loop : tie.MeasureT-loop
-μ-loop out₀ start values n d size at₀ from₀ i₀ out at from i = n - i
-
-stored-count-requires : tie.Need-stored-count-requires Inv-loop μ-loop
-stored-count-requires c κs = search needs
+μ-loop out₀ start values n size held at₀ from₀ i₀ out at from i = n - i
 
 returns : tie.Need-returns Inv-loop μ-loop
 returns c =
-    let s = c .before .before .before in
-    rw (writes-nothing (s .args .d) (sym (c .before .stored-count .ensures .0) ∙ c .if1 .taken) (s .args .n) (s .args .values .now)) (laid-none _ _)
+    let s = c .before .before in
+    rw (writes-nothing (heldFrom 0 (s .args .held .now)) (sym (s .pre .1) ∙ c .if1 .taken) (s .args .n) (s .args .values .now)) (laid-none _ _)
 
 loop-holds : tie.Need-loop-holds Inv-loop μ-loop
 unfolding rowFitting rowLeft
 loop-holds c =
-    let s = c .before .before .before in
-    (omega arith, c .before .stored-count .ensures .0, simp sub-zero (omega (arith, s .pre .0)), simp sub-zero (s .pre .1), simp sub-zero (owed-all _ _ _))
+    let s = c .before .before in
+    (omega arith, simp sub-zero (omega (arith, s .pre .2)), simp sub-zero (s .pre .3), simp sub-zero (owed-all _ _ _))
 
 -- the next point fits, and its bytes come next
 module _ (c : tie.In-loop Inv-loop μ-loop) where
   abbrev start : tie.Start Inv-loop μ-loop
-  start = c .before .before .before .before .before
+  start = c .before .before .before .before
 
-  fits : (fitsEach (stored (start .args .d)) (drop (c .before .loop .from) (start .args .values .now)) ≡ true)
-      × (rowFitting (start .args .d) (start .args .values .now) (start .args .n) (c .before .loop .i + 1) (c .before .loop .from + length (stored (start .args .d))) ≡ true)
-  fits = both _ _ (sym (row-fits (start .args .d) (start .args .values .now) (start .args .n) (c .before .loop .i) (c .before .loop .from) (c .loop-test .taken)) ∙ c .before .loop .inv .3)
+  fits : (fitsEach (heldFrom 0 (start .args .held .now)) (drop (c .before .loop .from) (start .args .values .now)) ≡ true)
+      × (rowFitting (heldFrom 0 (start .args .held .now)) (start .args .values .now) (start .args .n) (c .before .loop .i + 1) (c .before .loop .from + length (heldFrom 0 (start .args .held .now))) ≡ true)
+  fits = both _ _ (sym (row-fits (heldFrom 0 (start .args .held .now)) (start .args .values .now) (start .args .n) (c .before .loop .i) (c .before .loop .from) (c .loop-test .taken)) ∙ c .before .loop .inv .2)
 
   owed : Owed
       (start .args .out .now)
       (start .args .start)
-      (flatMap (encodePoint (start .args .d)) (pointsOf (start .args .n) (length (stored (start .args .d))) (start .args .values .now)))
+      (rowBytes (heldFrom 0 (start .args .held .now)) (start .args .n) (start .args .values .now))
       (c .before .loop .out)
       (c .before .loop .at)
-      (encodeEach encodeSample (stored (start .args .d)) (drop (c .before .loop .from) (start .args .values .now))
-      ++ rowLeft (start .args .d) (start .args .values .now) (start .args .n) (c .before .loop .i + 1) (c .before .loop .from + length (stored (start .args .d))))
-  owed = rw (row-left (start .args .d) (start .args .values .now) (start .args .n) (c .before .loop .i) (c .before .loop .from) (c .loop-test .taken)) at (c .before .loop .inv .4)
+      (encodeEach encodeSample (heldFrom 0 (start .args .held .now)) (drop (c .before .loop .from) (start .args .values .now))
+      ++ rowLeft (heldFrom 0 (start .args .held .now)) (start .args .values .now) (start .args .n) (c .before .loop .i + 1) (c .before .loop .from + length (heldFrom 0 (start .args .held .now))))
+  owed = rw (row-left (heldFrom 0 (start .args .held .now)) (start .args .values .now) (start .args .n) (c .before .loop .i) (c .before .loop .from) (c .loop-test .taken)) at (c .before .loop .inv .3)
 
 put-point-requires : tie.Need-put-point-requires Inv-loop μ-loop
 put-point-requires c κs =
     let l = c .before in
-    let a = l .before .before .before .before .before .args in
-    (omega (arith, l .before .loop .inv .2, row-many (a .d) (a .values .now) (a .n) (l .before .loop .i) (l .loop-test .taken)), fits l .0, room-first _ _ (owed-room (owed l) (l .before .before .before .before .before .pre .2)))
+    let s = start l in
+    let a = s .args in
+    (s .pre .0, omega (arith, l .before .loop .inv .1, row-many (heldFrom 0 (a .held .now)) (a .values .now) (a .n) (l .before .loop .i) (l .loop-test .taken)), fits l .0, room-first _ _ (owed-room (owed l) (s .pre .4)))
 
 add-from : tie.Need-add-from Inv-loop μ-loop
 add-from c =
     let k = c .before .before .before .before in
     let l = k .before in
-    let a = l .before .before .before .before .args in
-    omega (arith, l .loop .inv .1, l .loop .inv .2, row-many (a .d) (a .values .now) (a .n) (l .loop .i) (k .loop-test .taken))
+    let a = l .before .before .before .args in
+    omega (arith, l .before .before .before .pre .1, l .loop .inv .1, row-many (heldFrom 0 (a .held .now)) (a .values .now) (a .n) (l .loop .i) (k .loop-test .taken))
 
 add-i : tie.Need-add-i Inv-loop μ-loop
 add-i c = omega arith
@@ -80,18 +76,18 @@ loop-again c =
     let p = c .before .before in
     let k = p .before .before in
     let l = k .before in
-    let a = l .before .before .before .before .args in
-    rw (l .loop .inv .1)
-    (omega arith, refl, omega (arith, l .loop .inv .2, row-many (a .d) (a .values .now) (a .n) (l .loop .i) (k .loop-test .taken)), fits k .1, owed-next (owed k) (p .put-point .ensures))
+    let a = l .before .before .before .args in
+    rw (l .before .before .before .pre .1)
+    (omega arith, omega (arith, l .loop .inv .1, row-many (heldFrom 0 (a .held .now)) (a .values .now) (a .n) (l .loop .i) (k .loop-test .taken)), fits k .1, owed-next (owed k) (p .put-point .ensures))
 
 same-length : tie.Need-same-length Inv-loop μ-loop
-same-length c = c .before .loop .inv .4 .kept
+same-length c = c .before .loop .inv .3 .kept
 
 returns-2 : tie.Need-returns-2 Inv-loop μ-loop
 returns-2 c =
     let l = c .before in
-    let a = l .before .before .before .before .args in
-    owed-none (rw (row-left-none (a .d) (a .values .now) (a .n) (l .loop .i) (l .loop .from) (c .loop-test .left)) at (l .loop .inv .4))
+    let a = l .before .before .before .args in
+    owed-none (rw (row-left-none (heldFrom 0 (a .held .now)) (a .values .now) (a .n) (l .loop .i) (l .loop .from) (c .loop-test .left)) at (l .loop .inv .3))
 
 pub put-points-spec : {M : Type 1} → statement M
 put-points-spec =
@@ -99,7 +95,6 @@ put-points-spec =
     (tie.spec
     Inv-loop
     μ-loop
-    stored-count-requires
     returns
     loop-holds
     put-point-requires

@@ -36,7 +36,7 @@ held c =
     (c .if1 .came)
 
 returns : tie.Need-returns
-returns c = sym (sample-found _ _ (sym (held (c .before .before)) ∙ c .enum-told .given .1) .0)
+returns c = sym (sample-found _ _ (sym (held (c .before .before)) ∙ c .enum-told .given .1))
 
 returns-2 : tie.Need-returns-2
 returns-2 c = sym (sample-outside _ _ (sym (held (c .before .before)) ∙ c .enum-told2 .given .1))

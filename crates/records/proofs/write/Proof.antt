@@ -1,153 +1,89 @@
--- `records::write` meets its contract: what the stages answer decides what becomes of the output.
-use mathlib.Core.Path.{_≡_, refl, sym, ap, ap₂, _∙_}
-use Prim.Native.Nat.{ℕ}
-use native.Mathlib.Omega.{arith}
-use lib.ListN.{length}
-use borrow.Author.Tests.{le-leb, lt-leb}
-use Rattle.formats.specs.Laid.{Room}
+-- `records::write` meets its contract: how the description was put aside decides whether the record is written.
+use mathlib.Core.Path.{_≡_, refl, ap, _∙_}
+use lib.ListN.{replicate}
 use Rattle.formats.specs.Lent.{writing}
-use Rattle.records.specs.Record.{Record, encode}
-use Rattle.records.specs.Write.{recordOf, check, Passed, putWhere, writeOf}
-use Rattle.records.specs.WriteLaws.{passed}
-use Rattle.records.specs.declared.Written.{Written}
-use Rattle.records.specs.declared.Written.the-variants as written
+use Rattle.channels.specs.Channel.{widthOf}
+use Rattle.descriptions.specs.Write.{putIf}
+use Rattle.records.proofs.Laying.{aside-done, aside-flawed, aside-room, flawed-written}
 use borrow.Author.Needs.{needs}
 use Rattle.records.proofs.write.Statement.{statement}
 use Rattle.records.proofs.write.Tie as tie
 
-checked-requires : tie.Need-checked-requires
-checked-requires c κs = search needs
+slice-aggregate-put : tie.Need-slice-aggregate-put
+slice-aggregate-put c = search needs
 
-enum-known-answer : tie.Need-enum-known-answer
-enum-known-answer c = search needs
+put-requires : tie.Need-put-requires
+put-requires c κs = search needs
 
--- what the stages answered decides
-module _ (m : tie.After-checked) where
-  abbrev asked : tie.Start
-  asked = m .before .before .before
+-- the description, put aside
+module _ (m : tie.After-put) where
+  abbrev start : tie.Start
+  start = m .before .before .before .before
 
-  abbrev meant : Record
-  meant = recordOf (asked .args .description) (asked .args .count) (asked .args .values .now) (asked .args .wanted) (asked .args .extended .now)
+  aside : writing (m .put .result) (m .put .last .0) ≡ putIf 2 (start .args .description) (replicate 178 0) 0
+  unfolding widthOf
+  aside = m .put .ensures
 
-  by : {w : Written} → m .checked .result ≡ w
-      → writeOf (asked .args .description) (asked .args .count) (asked .args .values .now) (asked .args .wanted) (asked .args .extended .now) (asked .args .out .now) ≡ putWhere meant (asked .args .out .now) w
-  unfolding writeOf
-  by e = ap (putWhere meant (asked .args .out .now)) (sym (m .checked .ensures) ∙ e)
+enum-known-end : tie.Need-enum-known-end
+enum-known-end c = search needs
 
-  refused : {w : Written} → m .checked .result ≡ w → putWhere meant (asked .args .out .now) w ≡ writing w (asked .args .out .now)
-      → writing (m .checked .result) (asked .args .out .now)
-      ≡ writeOf (asked .args .description) (asked .args .count) (asked .args .values .now) (asked .args .wanted) (asked .args .extended .now) (asked .args .out .now)
-  refused e q = ap (λ w. writing w (asked .args .out .now)) e ∙ sym (by e ∙ q)
+sub-described : tie.Need-sub-described
+sub-described c = search needs
 
-  pass : {n : ℕ} → m .checked .result ≡ written.Record n
-      → Passed (asked .args .description) (asked .args .count) (asked .args .values .now) (asked .args .wanted) (asked .args .extended .now) × (n ≡ length (encode meant))
-  pass e = passed (asked .args .description) (asked .args .count) (asked .args .values .now) (asked .args .wanted) (asked .args .extended .now) (sym (m .checked .ensures) ∙ e)
+part-described-start : tie.Need-part-described-start
+part-described-start c = search needs
 
-returns : tie.Need-returns
-unfolding putWhere
-returns c =
-    let k = c .before .before in
-    let m = k .before .before in
-    sym (by m (k .answer .given .1) ∙ rw (lt-leb (k .answer .given .0 .0) (length (asked m .args .out .now)) (c .if1 .taken)))
+part-described-end : tie.Need-part-described-end
+part-described-end c = let e = c .before .before in let m = e .before .before .before in aside-done _ _ _ _ (aside m) refl (e .end .given .1) .1
 
-put-record-requires : tie.Need-put-record-requires
-put-record-requires c κs =
-    let k = c .before .before .before in
-    let m = k .before .before in
-    let p = pass m (k .answer .given .1) in
-    (p .0, record { enough = omega (arith, p .1, c .before .if1 .left) })
+write-described-requires : tie.Need-write-described-requires
+write-described-requires c κs =
+    let e = c .before .before .before .before in
+    let m = e .before .before .before in
+    let a = aside-done _ _ _ _ (aside m) refl (e .end .given .1) in
+    (a .0, a .2)
 
 enum-told : tie.Need-enum-told
 enum-told c = search needs
 
+flawed-requires : tie.Need-flawed-requires
+flawed-requires c κs = search needs
+
 enum-told-2 : tie.Need-enum-told-2
 enum-told-2 c = search needs
-
-enum-told-3 : tie.Need-enum-told-3
-enum-told-3 c = search needs
-
-enum-told-4 : tie.Need-enum-told-4
-enum-told-4 c = search needs
-
-enum-told-5 : tie.Need-enum-told-5
-enum-told-5 c = search needs
-
-enum-told-6 : tie.Need-enum-told-6
-enum-told-6 c = search needs
-
-enum-told-7 : tie.Need-enum-told-7
-enum-told-7 c = search needs
-
-enum-told-8 : tie.Need-enum-told-8
-enum-told-8 c = search needs
 
 same-length : tie.Need-same-length
 same-length c = search needs
 
+returns : tie.Need-returns
+returns c = search needs
+
 returns-2 : tie.Need-returns-2
-unfolding putWhere
 returns-2 c =
-    let p = c .before .before in
-    let e = p .before .before in
-    let k = e .before .before in
-    let m = k .before .before in
-    ap (writing _) (p .put-record .ensures .bytes) ∙ sym (by m (k .answer .given .1) ∙ rw (le-leb (k .answer .given .0 .0) (length (asked m .args .out .now)) (e .if1 .left)))
+    let e = c .before in
+    let m = e .before .before .before in
+    let a = start m .args in
+    ap (λ w. writing w (a .out .now)) (c .flawed .ensures)
+    ∙ flawed-written (a .description) (a .count) (a .values .now) (a .wanted) (a .extended .now) (a .out .now) (aside-flawed _ _ _ _ (aside m) refl (e .enum-told .given .1))
 
 returns-3 : tie.Need-returns-3
-unfolding putWhere
-returns-3 c = refused (c .before .before) (c .enum-told .given .1) refl
-
-returns-4 : tie.Need-returns-4
-unfolding putWhere
-returns-4 c = refused (c .before .before) (c .enum-told2 .given .1) refl
-
-returns-5 : tie.Need-returns-5
-unfolding putWhere
-returns-5 c = refused (c .before .before) (c .enum-told3 .given .1) refl
-
-returns-6 : tie.Need-returns-6
-unfolding putWhere
-returns-6 c = refused (c .before .before) (c .enum-told4 .given .1) refl
-
-returns-7 : tie.Need-returns-7
-unfolding putWhere
-returns-7 c = refused (c .before .before) (c .enum-told5 .given .1) refl
-
-returns-8 : tie.Need-returns-8
-unfolding putWhere
-returns-8 c = refused (c .before .before) (c .enum-told6 .given .1) refl
-
-returns-9 : tie.Need-returns-9
-unfolding putWhere
-returns-9 c = refused (c .before .before) (c .enum-told7 .given .1) refl
-
-returns-10 : tie.Need-returns-10
-unfolding putWhere
-returns-10 c = refused (c .before .before) (c .enum-told8 .given .1) refl
+returns-3 c = let m = c .before .before .before in absurd (aside-room _ _ _ _ (aside m) refl (c .enum-told2 .given .1))
 
 pub write-spec : {M : Type 1} → statement M
 write-spec =
     tie.close
     (tie.spec
-    checked-requires
-    enum-known-answer
-    returns
-    put-record-requires
+    slice-aggregate-put
+    put-requires
+    enum-known-end
+    sub-described
+    part-described-start
+    part-described-end
+    write-described-requires
     enum-told
+    flawed-requires
     enum-told-2
-    enum-told-3
-    enum-told-4
-    enum-told-5
-    enum-told-6
-    enum-told-7
-    enum-told-8
     same-length
+    returns
     returns-2
-    returns-3
-    returns-4
-    returns-5
-    returns-6
-    returns-7
-    returns-8
-    returns-9
-    returns-10)
+    returns-3)

@@ -1,0 +1,44 @@
+-- `records::stored_number` meets its contract: the least number of a channel is its offset below 0, so no bits are lost.
+use mathlib.Core.Path.{_≡_, ap, _∙_}
+use borrow.Author.Needs.{needs}
+use lib.IntN.{natAbs, _+ℤ_, _-ℤ_}
+use mir.Syntax.{w32}
+use mir.Val.{toZ, ofZ}
+use mir.ValLaws.{toZ-ofZ}
+use Rattle.channels.specs.Channel.{widthOf, signedOf}
+use Rattle.channels.specs.Stored.{offset, valueOf, storedOf}
+use Rattle.records.proofs.Laying.{above-least, above-fits}
+use Rattle.records.proofs.stored_number.Statement.{statement}
+use Rattle.records.proofs.stored_number.Tie as tie
+
+is-signed-requires : tie.Need-is-signed-requires
+is-signed-requires c κs = search needs
+
+value-of-requires : tie.Need-value-of-requires
+value-of-requires c κs = search needs
+
+-- the difference as the machine has it
+module _ (c : tie.After-value-of) where
+  abbrev start : tie.Start
+  start = c .before .before
+
+  least : toZ w32 (ofZ w32 (c .value-of .result)) ≡ valueOf 2 (signedOf (start .args .channel)) 0
+  unfolding widthOf
+  least = toZ-ofZ w32 (c .value-of .result) (search needs) ∙ c .value-of .ensures ∙ ap (λ signed. valueOf 2 signed 0) (c .before .is-signed .ensures)
+
+  above : toZ w32 (ofZ w32 (start .args .value)) -ℤ toZ w32 (ofZ w32 (c .value-of .result)) ≡ start .args .value +ℤ offset 2 (signedOf (start .args .channel))
+  above = rw (toZ-ofZ w32 (start .args .value) (start .fits .value), least) (above-least (signedOf (start .args .channel)) (start .args .value))
+
+sub-result : tie.Need-sub-result
+sub-result c = rw (above c) (above-fits _ _ (start c .pre) .0)
+
+cast-result : tie.Need-cast-result
+cast-result c = let f = above-fits _ _ (start c .pre) in rw (above c, toZ-ofZ w32 _ (f .0)) (f .1)
+
+returns : tie.Need-returns
+unfolding storedOf
+returns c = rw (above c) (ap natAbs (toZ-ofZ w32 _ (above-fits _ _ (start c .pre) .0)))
+
+pub stored-number-spec : {M : Type 1} → statement M
+stored-number-spec =
+    tie.close (tie.spec is-signed-requires value-of-requires sub-result cast-result returns)
