@@ -1,26 +1,28 @@
 -- What the parts of a description answer, as code goes through them: a number by its bytes, attribute after attribute by a cursor,
 -- a descriptor by its byte, and the description by its inclusion bytes.
 use mathlib.Core.Path.{_≡_, refl, sym, ap, _∙_}
-use mathlib.Core.Bool.{Bool, true, false}
+use mathlib.Core.Bool.{Bool, true, false, not}
 use mathlib.Core.Logic.{by-cases}
-use mathlib.Core.List.{List}
+use mathlib.Core.List.{List, _++_}
 use Prim.Native.Nat.{ℕ, zero, suc, _+_, _*_, _/_, _%_, _≤_, _<_}
 use native.Mathlib.Nat.{zero-add}
+use native.Mathlib.Numerals.{add-one}
 use native.Mathlib.Decide.{decLt}
 use native.Mathlib.Omega.{arith}
-use lib.ListN.{length, getD}
-use lib.Seq.{getD-drop}
+use lib.ListN.{length, getD, set, take, drop, replicate}
+use lib.Seq.{getD-drop, getD-set-other, take-suc, take-suc-set}
 use borrow.Author.Tests.{eq-eqb, ne-eqb}
 use Rattle.formats.specs.Bytes.{impossible}
 use Rattle.formats.specs.Reader.{Reader, Answer, done, ok, short, bad, mapped, readAt, bind, map, each, one, any}
 use Rattle.formats.specs.Compose.{at-done, at-map, at-short, at-pass, at-fail, at-bind-ok, at-bind-short}
+use Rattle.formats.specs.Gathered.{Gathered}
 use Rattle.formats.specs.Number.{number, value, at-number}
 use Rattle.formats.specs.Binary.{bit}
 use Rattle.channels.specs.Channel.{channels, signedOf, widthOf}
 use Rattle.channels.specs.declared.Format.{Format}
 use Rattle.channels.specs.declared.Format.the-variants.{Full, Compact}
 use Rattle.channels.specs.declared.Descriptor.{Descriptor}
-use Rattle.descriptions.specs.Description.{hasXY, reserved, attribute, descriptor, channelOf, description}
+use Rattle.descriptions.specs.Description.{hasXY, reserved, absent, attribute, descriptor, includes, channelOf, description}
 use Rattle.descriptions.specs.Encoded.{from}
 use Rattle.descriptions.specs.Read.{described, readFrom, readTo, channelsFrom}
 use Rattle.descriptions.specs.declared.Cursor.{Cursor}
@@ -130,6 +132,47 @@ module _ (w inclusion : ℕ) (s : List ℕ) (start : ℕ) where
       → described (readAt (channelsFrom w inclusion) s start) ≡ described (mapped (λ ds. record { channels = ds }) x)
   unfolding channelsFrom
   channels-answer e = ap described (at-map (λ ds. record { channels = ds }) (each channels (channelOf w inclusion)) s start ∙ ap (mapped _) e)
+
+-- a channel has its descriptor where it is included, else no bytes
+module _ (w inclusion channel : ℕ) (s : List ℕ) (at : ℕ) where
+  pub channel-included : includes inclusion channel ≡ true → readAt (channelOf w inclusion channel) s at ≡ readAt (descriptor w channel) s at
+  unfolding channelOf
+  channel-included e = rw e
+
+  pub channel-left-out : includes inclusion channel ≡ false → readAt (channelOf w inclusion channel) s at ≡ ok absent at
+  unfolding channelOf
+  channel-left-out e = rw e (at-done absent s at)
+
+-- what stands in the array already need not be set
+take-kept : {A : Type 0} (a : List A) (i : ℕ) (d v : A) → i < length a → getD a i d ≡ v → take (i + 1) (set a i v) ≡ take (i + 1) a
+take-kept a i d v h e = rw (add-one i) (take-suc-set a i v h ∙ rw (← e) (sym (take-suc a i d h)))
+
+pub gathered-kept : {I A : Type 0} (l : List I) (f : I → Reader A) (s : List ℕ) (start : ℕ) (a : List A) (i at : ℕ) (d v : A) → i < length a → getD a i d ≡ v
+    → Gathered l f s start (set a i v) (i + 1) at → Gathered l f s start a (i + 1) at
+gathered-kept l f s start a i at d v h e g = g ∙ ap (λ p. mapped (λ vs. p ++ vs) (readAt (each (drop (i + 1) l) f) s at)) (take-kept a i d v h e)
+
+-- no channel from one on has been set
+abbrev pub Unset : List Descriptor → ℕ → Type 0
+Unset ds channel = (i : ℕ) → channel ≤ i → getD ds i absent ≡ absent
+
+pub unset-all : (d : Descriptor) → d ≡ absent → (n channel : ℕ) → Unset (replicate n d) channel
+unset-all d e n channel i h = go n i
+  where
+    go : (n i : ℕ) → getD (replicate n d) i absent ≡ absent
+    go zero i = refl
+    go (suc n) zero = e
+    go (suc n) (suc i) = go n i
+
+pub unset-next : (ds : List Descriptor) (channel : ℕ) (d : Descriptor) → Unset ds channel → Unset (set ds channel d) (channel + 1)
+unset-next ds channel d u i h = getD-set-other ds channel i d absent (λ e. omega arith) ∙ u i (omega arith)
+
+pub not-true : (b : Bool) → not b ≡ true → b ≡ false
+not-true true e = impossible (cc)
+not-true false e = refl
+
+pub not-false : (b : Bool) → not b ≡ false → b ≡ true
+not-false true e = refl
+not-false false e = impossible (cc)
 
 -- ---- The inclusion bytes
 

@@ -8,7 +8,7 @@ use Rattle.channels.specs.Channel.{widthOf}
 use Rattle.channels.specs.declared.Descriptor.{Descriptor}
 use Rattle.channels.specs.declared.Format.{Format}
 use Rattle.descriptions.specs.Description.{description, isStored}
-use Rattle.descriptions.specs.Read.{nothing, described}
+use Rattle.descriptions.specs.Read.{nothing, described, measured}
 
 pub one-stored : (d : Descriptor) → OneAnswer (λ r. r ≡ isStored d)
 one-stored d = named
@@ -18,3 +18,6 @@ one-nothing = named
 
 pub one-described : (s : List ℕ) (start : ℕ) (format : Format) → OneAnswer (λ r. r ≡ described (readAt (description (widthOf format)) s start))
 one-described s start format = named
+
+pub one-measured : (s : List ℕ) (start : ℕ) (format : Format) → OneAnswer (λ r. r ≡ measured (readAt (description (widthOf format)) s start))
+one-measured s start format = named

@@ -1,6 +1,7 @@
 -- What the front of a record is told as, part by part.
 use mathlib.Core.Path.{_≡_, refl, sym, ap, ap₂, _∙_}
 use mathlib.Core.List.{List}
+use mathlib.Core.List as list
 use Prim.Native.Nat.{ℕ, _≤_}
 use native.Mathlib.Omega.{arith}
 use lib.ListN.{length}
@@ -11,13 +12,12 @@ use Rattle.formats.specs.Compose.{at-start, at-bind-ok, at-bind-short, at-bind-
 use Rattle.formats.specs.Told.{told, told-done, told-short, told-bad, bind-done, bind-short, bind-bad, matched, literal-told, done-within}
 use Rattle.formats.specs.declared.Outcome.the-variants.{Done, Short, Bad}
 use Rattle.channels.specs.declared.Description.{Description}
-use Rattle.descriptions.specs.Description.{description}
-use Rattle.descriptions.specs.Read.{described}
-use Rattle.descriptions.specs.declared.Described.{Described}
+use Rattle.descriptions.specs.Description.{description, isStored}
+use Rattle.descriptions.specs.Read.{measured}
+use Rattle.descriptions.specs.declared.Measured.{Measured}
 use Rattle.records.specs.Record.{identifierBytes, versionBytes}
-use Rattle.records.specs.Front.{marks, opened, channelled, front}
+use Rattle.records.specs.Front.{Heading, marks, opened, channelled, front}
 use Rattle.records.specs.Layout.{noFront, fronted}
-use Rattle.records.specs.declared.Front.{Front}
 
 module _ (s : List ℕ) where
   -- ---- The identifier and the version
@@ -64,29 +64,28 @@ module _ (s : List ℕ) where
   unfolding front fronted
   front-bad e = ap fronted (sym (at-start _ s) ∙ at-bind-bad marks _ s 0 (told-bad (readAt marks s 0) (sym (marked ∙ e))))
 
--- ---- The channels, by what the code that reads them answered
+-- ---- The channels, by what the code that measures them answered
 
-pub described-done : (x : Answer Description) (r : Described) {n : ℕ} → r ≡ described x → r .outcome ≡ Done n → x ≡ ok (r .description) n
-unfolding described
-described-done (ok d m) r {n} e o =
-    let a : d ≡ r .description = sym (ap (λ z. z .description) e) in
+pub measured-done : (x : Answer Description) (r : Measured) {n : ℕ} → r ≡ measured x → r .outcome ≡ Done n
+    → (d : Description) × (x ≡ ok d n) × (r .stored ≡ list.map isStored (d .channels))
+unfolding measured
+measured-done (ok d m) r {n} e o =
     let b : Done m ≡ Done n = sym (ap (λ z. z .outcome) e) ∙ o in
-    let c : m ≡ n = cc in
-    ap₂ ok a c
-described-done short r e o = impossible (cc (ap (λ z. z .outcome) e))
-described-done (bad k p) r e o = impossible (cc (ap (λ z. z .outcome) e))
+    (d, cc, ap (λ z. z .stored) e)
+measured-done short r e o = impossible (cc (ap (λ z. z .outcome) e))
+measured-done (bad k p) r e o = impossible (cc (ap (λ z. z .outcome) e))
 
-pub described-short : (x : Answer Description) (r : Described) → r ≡ described x → r .outcome ≡ Short → x ≡ short
-unfolding described
-described-short (ok d m) r e o = impossible (cc (ap (λ z. z .outcome) e))
-described-short short r e o = refl
-described-short (bad k p) r e o = impossible (cc (ap (λ z. z .outcome) e))
+pub measured-short : (x : Answer Description) (r : Measured) → r ≡ measured x → r .outcome ≡ Short → x ≡ short
+unfolding measured
+measured-short (ok d m) r e o = impossible (cc (ap (λ z. z .outcome) e))
+measured-short short r e o = refl
+measured-short (bad k p) r e o = impossible (cc (ap (λ z. z .outcome) e))
 
-pub described-bad : (x : Answer Description) (r : Described) {k p : ℕ} → r ≡ described x → r .outcome ≡ Bad k p → x ≡ bad k p
-unfolding described
-described-bad (ok d m) r e o = impossible (cc (ap (λ z. z .outcome) e))
-described-bad short r e o = impossible (cc (ap (λ z. z .outcome) e))
-described-bad (bad j q) r e o = cc (ap (λ z. z .outcome) e)
+pub measured-bad : (x : Answer Description) (r : Measured) {k p : ℕ} → r ≡ measured x → r .outcome ≡ Bad k p → x ≡ bad k p
+unfolding measured
+measured-bad (ok d m) r e o = impossible (cc (ap (λ z. z .outcome) e))
+measured-bad short r e o = impossible (cc (ap (λ z. z .outcome) e))
+measured-bad (bad j q) r e o = cc (ap (λ z. z .outcome) e)
 
 module _ (s : List ℕ) (at : ℕ) where
   pub channelled-done : {d : Description} {n : ℕ} → readAt (description 2) s at ≡ ok d n → readAt channelled s at ≡ readAt (opened d) s n
@@ -102,7 +101,7 @@ module _ (s : List ℕ) (at : ℕ) where
   channelled-bad e = ap fronted (at-bind-bad (description 2) opened s at e)
 
 -- a front that is there ends in the string
-within : (s : List ℕ) {n : ℕ} (x : Answer Front) → run front s ≡ x → fronted x .outcome ≡ Done n → n ≤ length s
+within : (s : List ℕ) {n : ℕ} (x : Answer Heading) → run front s ≡ x → fronted x .outcome ≡ Done n → n ≤ length s
 unfolding fronted
 within s {n} (ok f m) q h = let z : m ≡ n = cc in omega (arith, whole front s q .within)
 within s short q h = impossible (cc)

@@ -8,19 +8,24 @@ use native.Mathlib.Omega.{arith}
 use lib.Dec.{ltb}
 use lib.ListN.{length, getD}
 use borrow.Author.Tests.{lt-ltb, le-ltb}
-use Rattle.formats.specs.Reader.{ok, short, bad, run, readAt}
+use Rattle.formats.specs.Bytes.{impossible}
+use Rattle.formats.specs.Reader.{Answer, ok, short, bad, run, readAt}
 use Rattle.formats.specs.declared.Outcome.the-variants.{Done, Short, Bad}
-use Rattle.descriptions.specs.Read.{nothing}
+use Rattle.channels.specs.declared.Description.{Description}
+use Rattle.descriptions.specs.Description.{description}
+use Rattle.descriptions.specs.Read.{nothing, described}
 use Rattle.records.specs.Record.{Record, point, fullRecord, width}
-use Rattle.records.specs.Places.{places}
 use Rattle.records.specs.Points.{placesAt, nowhere}
 use Rattle.formats.specs.Fixed.{fixed-times}
 use Rattle.records.specs.Nth.{fixed-point, nth-point}
 use Rattle.records.specs.Layout.{layoutOf}
+use Rattle.records.specs.Described.{record-described}
 use Rattle.records.specs.Found.{LaidOut, record-laid, short-laid, bad-laid}
-use Rattle.records.specs.Verdict.{faultOf, judged, extendedPlace, extendedSize, extendedBytes, restPlace, restSize, pointedAt, placesIn}
+use Rattle.records.specs.Verdict.{faultOf, judged, unjudged, extendedPlace, extendedSize, extendedBytes, restPlace, restSize, pointedAt, placesIn}
 use Rattle.records.specs.declared.Layout.{Layout}
+use Rattle.records.specs.declared.Fault.{Fault}
 use Rattle.records.specs.declared.Judged.{Judged}
+use Rattle.records.specs.declared.Verdict.{Verdict}
 use Rattle.records.specs.declared.Verdict.the-variants as verdict
 use Rattle.records.specs.declared.Pointed.the-variants as pointed
 
@@ -37,19 +42,19 @@ module _ (s : List ℕ) (l : Layout) (e : l ≡ layoutOf s) where
     laid : LaidOut s l whole end
     laid = record-laid s l e o .2
 
-    pub judged-record : _≡_ {A = Judged} (record { verdict = verdict.Record end (l .front .count) (l .front .announced); description = l .front .description }) (judged (run fullRecord s))
+    pub verdict-record : verdict.Record end (l .count) (l .announced) ≡ judged (run fullRecord s) .verdict
     unfolding judged
-    judged-record =
-        (λ i. record { verdict = verdict.Record end (sym (laid .count) i) (sym (laid .extension .presence) i); description = laid .description i }) ∙ sym (ap judged read)
+    verdict-record =
+        (λ i. verdict.Record end (sym (laid .count) i) (sym (laid .extension .presence) i)) ∙ sym (ap (λ x. judged x .verdict) read)
 
     pub ends-within : (l .extension ≤ end) × (end ≤ length s)
     ends-within = laid .extended-within
 
-    pub extended-lies : l .front .announced ≡ true → (extendedPlace (run fullRecord s) ≡ l .extension + 2) × (extendedSize (run fullRecord s) ≡ end - (l .extension + 2)) × (l .extension + 2 ≤ end)
+    pub extended-lies : l .announced ≡ true → (extendedPlace (run fullRecord s) ≡ l .extension + 2) × (extendedSize (run fullRecord s) ≡ end - (l .extension + 2)) × (l .extension + 2 ≤ end)
     unfolding extendedPlace extendedSize
     extended-lies t = let h = laid .extension .start t in rw read (omega arith, omega arith, omega arith)
 
-    pub extended-empty : l .front .announced ≡ false → (extendedPlace (run fullRecord s) ≡ end) × (extendedSize (run fullRecord s) ≡ 0)
+    pub extended-empty : l .announced ≡ false → (extendedPlace (run fullRecord s) ≡ end) × (extendedSize (run fullRecord s) ≡ 0)
     unfolding extendedPlace extendedSize
     extended-empty t = let h = ap length (laid .extension .empty t .1) in rw read (omega arith, omega arith)
 
@@ -57,32 +62,43 @@ module _ (s : List ℕ) (l : Layout) (e : l ≡ layoutOf s) where
     unfolding restPlace restSize
     rest-lies = rw read (refl, refl)
 
-    pub pointed-there : (index : ℕ) → index < l .front .count → pointed.Point ≡ pointedAt index (run fullRecord s)
+    pub pointed-there : (index : ℕ) → index < l .count → pointed.Point ≡ pointedAt index (run fullRecord s)
     unfolding pointedAt
     pointed-there index h = rw (read, lt-ltb index (length (whole .points)) (omega (arith, laid .count)))
 
-    pub pointed-none : (index : ℕ) → l .front .count ≤ index → pointed.NoPoint ≡ pointedAt index (run fullRecord s)
+    pub pointed-none : (index : ℕ) → l .count ≤ index → pointed.NoPoint ≡ pointedAt index (run fullRecord s)
     unfolding pointedAt
     pointed-none index h = rw (read, le-ltb index (length (whole .points)) (omega (arith, laid .count)))
 
-    pub places-none : (index : ℕ) → l .front .count ≤ index → nowhere ≡ placesIn index (run fullRecord s)
+    pub places-none : (index : ℕ) → l .count ≤ index → nowhere ≡ placesIn index (run fullRecord s)
     unfolding placesIn
     places-none index h = rw (read, le-ltb index (length (whole .points)) (omega (arith, laid .count)))
 
-    pub places-there : (index : ℕ) → index < l .front .count
-        → placesAt (l .front .description) (readAt (point (l .front .description)) s (l .points + index * width (l .front .description))) ≡ placesIn index (run fullRecord s)
-    unfolding placesIn placesAt
-    places-there index h =
-        ap (placesAt (l .front .description)) (nth-point (l .front .description) s (l .front .count) (l .points) (whole .points) (l .extension) (laid .within) (laid .points) index h)
-        ∙ ap (λ d. places d (getD (whole .points) index [])) (laid .description)
-        ∙ sym (rw (read, lt-ltb index (length (whole .points)) (omega (arith, laid .count))) refl)
+    -- the description stands behind the identifier and the version
+    description-there : described (readAt (description 2) s 8) .description ≡ whole .description
+    unfolding described
+    description-there = ap (λ x. described x .description) (record-described s read .1)
 
-    -- the point lies in the bytes
-    pub point-within : (index : ℕ) → index < l .front .count → l .points + index * width (l .front .description) ≤ length s
-    point-within index h =
-        let d = l .front .description in
-        let z = fixed-times (point d) (width d) (fixed-point d) (l .front .count) s (l .points) (whole .points) (l .extension) (laid .within) (laid .points) in
-        omega (arith, z, mul-le-mul-right {m = index} {n = l .front .count} (width d) (omega arith), laid .extended-within)
+    module _ (index : ℕ) (h : index < l .count) where
+      places-by : placesAt (whole .description) (readAt (point (whole .description)) s (l .points + index * width (whole .description))) ≡ placesIn index (run fullRecord s)
+      unfolding placesIn placesAt
+      places-by =
+          ap (placesAt (whole .description)) (nth-point (whole .description) s (l .count) (l .points) (whole .points) (l .extension) (laid .within) (laid .points) index h)
+          ∙ sym (rw (read, lt-ltb index (length (whole .points)) (omega (arith, laid .count))) refl)
+
+      pub places-there : (d : Description) → d ≡ described (readAt (description 2) s 8) .description
+          → placesAt d (readAt (point d) s (l .points + index * l .width)) ≡ placesIn index (run fullRecord s)
+      places-there d q =
+          ap (λ x. placesAt x (readAt (point x) s (l .points + index * l .width))) (q ∙ description-there)
+          ∙ ap (λ w. placesAt (whole .description) (readAt (point (whole .description)) s (l .points + index * w))) (laid .wide)
+          ∙ places-by
+
+      -- the point lies in the bytes
+      pub point-within : l .points + index * l .width ≤ length s
+      point-within =
+          let d = whole .description in
+          let z = fixed-times (point d) (width d) (fixed-point d) (l .count) s (l .points) (whole .points) (l .extension) (laid .within) (laid .points) in
+          rw (laid .wide) (omega (arith, z, mul-le-mul-right {m = index} {n = l .count} (width d) (omega arith), laid .extended-within))
 
   -- ---- No record
 
@@ -90,14 +106,46 @@ module _ (s : List ℕ) (l : Layout) (e : l ≡ layoutOf s) where
     pub short-read : run fullRecord s ≡ short
     short-read = short-laid s l e o .0
 
-    pub judged-short : _≡_ {A = Judged} (record { verdict = verdict.Short; description = l .front .description }) (judged (run fullRecord s))
+    pub verdict-short : verdict.Short ≡ judged (run fullRecord s) .verdict
     unfolding judged
-    judged-short = ap (λ (y : Layout). record { verdict = verdict.Short; description = y .front .description }) (short-laid s l e o .1) ∙ sym (ap judged short-read)
+    verdict-short = sym (ap (λ x. judged x .verdict) short-read)
 
   module _ {k p : ℕ} (o : l .outcome ≡ Bad k p) where
     pub bad-read : run fullRecord s ≡ bad k p
     bad-read = bad-laid s l e o .0
 
-    pub judged-bad : _≡_ {A = Judged} (record { verdict = verdict.Refused (faultOf k) p; description = l .front .description }) (judged (run fullRecord s))
+    pub verdict-bad : verdict.Refused (faultOf k) p ≡ judged (run fullRecord s) .verdict
     unfolding judged
-    judged-bad = ap (λ (y : Layout). record { verdict = verdict.Refused (faultOf k) p; description = y .front .description }) (bad-laid s l e o .1) ∙ sym (ap judged bad-read)
+    verdict-bad = sym (ap (λ x. judged x .verdict) bad-read)
+
+-- ---- With the description
+
+module _ (s : List ℕ) where
+  judged-by : {n k : ℕ} {t : Bool} (x : Answer Record) → run fullRecord s ≡ x → verdict.Record n k t ≡ judged x .verdict
+      → described (readAt (description 2) s 8) .description ≡ judged x .description
+  unfolding judged described
+  judged-by (ok r n) q e = ap (λ y. described y .description) (record-described s q .1)
+  judged-by short q e = impossible (cc)
+  judged-by (bad k p) q e = impossible (cc)
+
+  pub judged-record : (v : Verdict) {n k : ℕ} {t : Bool} → v ≡ judged (run fullRecord s) .verdict → v ≡ verdict.Record n k t
+      → _≡_ {A = Judged} (record { verdict = v; description = described (readAt (description 2) s 8) .description }) (judged (run fullRecord s))
+  judged-record v e q = λ i. record { verdict = e i; description = judged-by (run fullRecord s) refl (sym q ∙ e) i }
+
+  short-by : (x : Answer Record) → verdict.Short ≡ judged x .verdict → nothing ≡ judged x .description
+  unfolding judged
+  short-by (ok r n) e = impossible (cc)
+  short-by short e = refl
+  short-by (bad k p) e = refl
+
+  pub judged-short : (v : Verdict) → v ≡ judged (run fullRecord s) .verdict → v ≡ verdict.Short → unjudged v ≡ judged (run fullRecord s)
+  judged-short v e q = λ i. record { verdict = e i; description = short-by (run fullRecord s) (sym q ∙ e) i }
+
+  refused-by : {f : Fault} {p : ℕ} (x : Answer Record) → verdict.Refused f p ≡ judged x .verdict → nothing ≡ judged x .description
+  unfolding judged
+  refused-by (ok r n) e = impossible (cc)
+  refused-by short e = refl
+  refused-by (bad k p) e = refl
+
+  pub judged-refused : (v : Verdict) {f : Fault} {p : ℕ} → v ≡ judged (run fullRecord s) .verdict → v ≡ verdict.Refused f p → unjudged v ≡ judged (run fullRecord s)
+  judged-refused v e q = λ i. record { verdict = e i; description = refused-by (run fullRecord s) (sym q ∙ e) i }

@@ -23,6 +23,9 @@ module _ (s : List ℕ) where
   pub one-judged : OneAnswer (λ r. r ≡ judged (run fullRecord s))
   one-judged = named
 
+  pub one-verdict : OneAnswer (λ r. r ≡ judged (run fullRecord s) .verdict)
+  one-verdict = named
+
   pub one-judged-whole : OneAnswer (λ r. r ≡ judgedWhole (length s) (run fullRecord s))
   one-judged-whole = named
 

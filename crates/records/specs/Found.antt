@@ -18,11 +18,11 @@ use Rattle.formats.specs.Number.{number, value, at-number, at-number-short}
 use Rattle.formats.specs.Fixed.{parts}
 use Rattle.formats.specs.Told.{told}
 use Rattle.formats.specs.declared.Outcome.the-variants.{Done, Short, Bad}
-use Rattle.records.specs.Record.{Record, point, extension, fullRecord}
-use Rattle.records.specs.Front.{front, body, in-two}
-use Rattle.records.specs.Layout.{fronted, nowhereLaid, laidIf, laidNext, laidExtension, laidPoints, layoutOf}
+use Rattle.records.specs.Record.{Record, point, width, extension, fullRecord}
+use Rattle.records.specs.Front.{Heading, front, body, in-two}
+use Rattle.records.specs.Storing.{storing-point, storing-width}
+use Rattle.records.specs.Layout.{frontOf, fronted, nowhereLaid, laidIf, laidNext, laidExtension, laidPoints, layoutOf}
 use Rattle.records.specs.Verdict.{present, extendedBytes}
-use Rattle.records.specs.declared.Front.{Front}
 use Rattle.records.specs.declared.Layout.{Layout}
 
 -- ---- What the parts of a record say of themselves
@@ -76,11 +76,11 @@ extension-ends s false at {extra} {end} h e =
 
 pub record LaidOut (s : List ℕ) (l : Layout) (r : Record) (end : ℕ) : Type 0 where
   pub outcome : l .outcome ≡ Done end
-  pub description : l .front .description ≡ r .description
-  pub count : length (r .points) ≡ l .front .count
+  pub wide : l .width ≡ width (r .description)
+  pub count : length (r .points) ≡ l .count
   pub within : l .points ≤ length s
-  pub points : readAt (times (l .front .count) (point (l .front .description))) s (l .points) ≡ ok (r .points) (l .extension)
-  pub extension : Ends s (l .front .announced) (l .extension) (r .extended) end
+  pub points : readAt (times (l .count) (point (r .description))) s (l .points) ≡ ok (r .points) (l .extension)
+  pub extension : Ends s (l .announced) (l .extension) (r .extended) end
   pub extended-within : (l .extension ≤ end) × (end ≤ length s)
 
 unfoldable pub Found : List ℕ → Answer Record → Layout → Type 0
@@ -89,21 +89,21 @@ Found s short l = l ≡ nowhereLaid Short
 Found s (bad k p) l = l ≡ nowhereLaid (Bad k p)
 
 module _ (s : List ℕ) where
-  module _ (f : Front) (at : ℕ) (within : at ≤ length s) where
+  module _ (f : Heading) (at : ℕ) (within : at ≤ length s) where
     abbrev made : List (List ℤ) → Option (List ℕ) → Record
     made points extended = record { description = f .description; points = points; extended = extended }
 
     -- behind the points
     module _ (points : List (List ℤ)) (next : ℕ) (e : readAt (times (f .count) (point (f .description))) s at ≡ ok points next) where
       by-extension : (x : Answer (Option (List ℕ))) → readAt (extension (f .announced)) s next ≡ x
-          → Found s (andThen x (λ extra end. readAt (done (made points extra)) s end)) (laidIf f at next (told x))
+          → Found s (andThen x (λ extra end. readAt (done (made points extra)) s end)) (laidIf (frontOf f) at next (told x))
       unfolding Found andThen laidIf told
       by-extension (ok extra end) g =
           let w = at-within (times (f .count) (point (f .description))) s at e within in
           rw (at-done (made points extra) s end)
           (record {
             outcome = refl;
-            description = refl;
+            wide = storing-width (f .description);
             count = times-length (point (f .description)) s (f .count) at e;
             within = within;
             points = e;
@@ -115,7 +115,7 @@ module _ (s : List ℕ) where
 
     -- behind the front
     by-points : (x : Answer (List (List ℤ))) → readAt (times (f .count) (point (f .description))) s at ≡ x
-        → Found s (andThen x (λ points next. readAt (bind (extension (f .announced)) (λ extra. done (made points extra))) s next)) (laidNext (laidExtension s f at) (told x))
+        → Found s (andThen x (λ points next. readAt (bind (extension (f .announced)) (λ extra. done (made points extra))) s next)) (laidNext (laidExtension s (frontOf f) at) (told x))
     unfolding Found andThen laidNext laidExtension told
     by-points (ok points next) e =
         rw (at-bind (λ extra. done (made points extra)) (extension (f .announced)) s next)
@@ -123,11 +123,11 @@ module _ (s : List ℕ) where
     by-points short e = refl
     by-points (bad k p) e = refl
 
-  by-front : (x : Answer Front) → run front s ≡ x
+  by-front : (x : Answer Heading) → run front s ≡ x
       → Found s (andThen x (λ f at. readAt (body f) s at)) (laidNext (laidPoints s (fronted x .front)) (fronted x .outcome))
   unfolding Found andThen laidNext laidPoints fronted body
   by-front (ok f at) e =
-      rw (at-bind (λ points. bind (extension (f .announced)) (λ extra. done (made f at (whole front s e .within) points extra))) (times (f .count) (point (f .description))) s at)
+      rw (storing-point (f .description), at-bind (λ points. bind (extension (f .announced)) (λ extra. done (made f at (whole front s e .within) points extra))) (times (f .count) (point (f .description))) s at)
       (by-points f at (whole front s e .within) (readAt (times (f .count) (point (f .description))) s at) refl)
   by-front short e = refl
   by-front (bad k p) e = refl

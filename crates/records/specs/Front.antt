@@ -1,5 +1,6 @@
 -- A record in two parts: its front, all that stands before the points, and its body, the points and the extended data.
 use mathlib.Core.Path.{_≡_, refl, sym, _∙_}
+use mathlib.Core.Bool.{Bool}
 use mathlib.Core.List.{List, [], _∷_}
 use Prim.Native.Nat.{ℕ}
 use Rattle.formats.specs.Reader.{Reader, done, byte, bind, one, literal, times, _>>=_, _>>_}
@@ -8,7 +9,12 @@ use Rattle.formats.specs.Number.{number}
 use Rattle.channels.specs.declared.Description.{Description}
 use Rattle.descriptions.specs.Description.{description}
 use Rattle.records.specs.Record.{Record, identifierBytes, versionBytes, opening, point, extension, fullRecord}
-use Rattle.records.specs.declared.Front.{Front}
+
+-- what stands before the points: the channels, whether extended data are announced, and the number of points
+pub record Heading : Type 0 where
+  pub description : Description
+  pub announced : Bool
+  pub count : ℕ
 
 -- the format identifier and the version
 unfoldable pub marks : Reader (Unit {0})
@@ -17,25 +23,25 @@ marks = do
   literal 3 versionBytes tt
 
 -- the reserved byte, the opening byte and the count, behind a description
-unfoldable pub opened : Description → Reader Front
+unfoldable pub opened : Description → Reader Heading
 opened d = do
   literal 6 (0x00 ∷ []) tt
   b ← one opening
   count ← number 3
   done (record { description = d; announced = bit 8 b; count = count })
 
-unfoldable pub channelled : Reader Front
+unfoldable pub channelled : Reader Heading
 channelled = do
   d ← description 2
   opened d
 
-unfoldable pub front : Reader Front
+unfoldable pub front : Reader Heading
 front = do
   marks
   channelled
 
 -- the points and the extended data, as the front has them
-unfoldable pub body : Front → Reader Record
+unfoldable pub body : Heading → Reader Record
 body f = do
   points ← times (f .count) (point (f .description))
   extended ← extension (f .announced)

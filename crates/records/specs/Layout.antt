@@ -1,34 +1,68 @@
 -- Where the parts of a record lie: what code finds when it goes over one.
-use mathlib.Core.Bool.{false}
-use mathlib.Core.List.{List}
+use mathlib.Core.Bool.{Bool, false, cond}
+use mathlib.Core.List.{List, map}
 use Prim.Native.Nat.{ℕ}
+use lib.Dec.{eqb}
+use lib.ListN.{replicate}
 use Rattle.formats.specs.Reader.{Answer, ok, short, bad, run, readAt, times}
 use Rattle.formats.specs.Told.{told}
 use Rattle.formats.specs.declared.Outcome.{Outcome}
 use Rattle.formats.specs.declared.Outcome.the-variants.{Done, Short, Bad}
-use Rattle.descriptions.specs.Read.{nothing}
-use Rattle.records.specs.Record.{point, extension}
-use Rattle.records.specs.Front.{front}
+use Rattle.channels.specs.Channel.{S}
+use Rattle.channels.specs.declared.Description.{Description}
+use Rattle.descriptions.specs.Description.{noAttribute, isStored}
+use Rattle.records.specs.Record.{point, width, extension}
+use Rattle.records.specs.Front.{Heading, front}
 use Rattle.records.specs.declared.Front.{Front}
 use Rattle.records.specs.declared.Fronted.{Fronted}
 use Rattle.records.specs.declared.Layout.{Layout}
 
+-- a description of which a sample point holds numbers of these channels, and that says nothing else
+unfoldable pub storing : List Bool → Description
+storing stored = record {
+  channels = map (λ b. record {
+    included = b;
+    scaling = noAttribute;
+    minimum = noAttribute;
+    maximum = noAttribute;
+    mean = noAttribute;
+    deviation = noAttribute;
+    constant = false;
+    detrended = false;
+  }) stored;
+}
+
+-- how many bytes a channel has in a sample point
+unfoldable pub sampleSize : (channel : ℕ) → ℕ
+sampleSize channel = cond (eqb channel S) 1 2
+
+-- what the points need of what stands before them
+abbrev pub frontOf : Heading → Front
+frontOf h = record { stored = map isStored (h .description .channels); announced = h .announced; count = h .count }
+
 -- how reading a front ended, and the front where there is one
 abbrev pub noFront : Outcome → Fronted
-noFront o = record { outcome = o; front = record { description = nothing; announced = false; count = 0 } }
+noFront o = record { outcome = o; front = record { stored = replicate 16 false; announced = false; count = 0 } }
 
-unfoldable pub fronted : Answer Front → Fronted
-fronted (ok f n) = record { outcome = Done n; front = f }
+unfoldable pub fronted : Answer Heading → Fronted
+fronted (ok h n) = record { outcome = Done n; front = frontOf h }
 fronted short = noFront Short
 fronted (bad k p) = noFront (Bad k p)
 
 -- no record: how it ended
 abbrev pub nowhereLaid : Outcome → Layout
-nowhereLaid o = record { outcome = o; front = noFront o .front; points = 0; extension = 0 }
+nowhereLaid o = record { outcome = o; announced = false; count = 0; width = 0; points = 0; extension = 0 }
 
 -- a record, if it ended well
 unfoldable pub laidIf : Front → ℕ → ℕ → Outcome → Layout
-laidIf f points extension (Done end) = record { outcome = Done end; front = f; points = points; extension = extension }
+laidIf f points extension (Done end) = record {
+  outcome = Done end;
+  announced = f .announced;
+  count = f .count;
+  width = width (storing (f .stored));
+  points = points;
+  extension = extension;
+}
 laidIf f points extension Short = nowhereLaid Short
 laidIf f points extension (Bad k p) = nowhereLaid (Bad k p)
 
@@ -42,7 +76,7 @@ laidNext next Short = nowhereLaid Short
 laidNext next (Bad k p) = nowhereLaid (Bad k p)
 
 unfoldable pub laidPoints : List ℕ → Front → ℕ → Layout
-laidPoints s f at = laidNext (laidExtension s f at) (told (readAt (times (f .count) (point (f .description))) s at))
+laidPoints s f at = laidNext (laidExtension s f at) (told (readAt (times (f .count) (point (storing (f .stored)))) s at))
 
 unfoldable pub layoutOf : List ℕ → Layout
 layoutOf s = laidNext (laidPoints s (fronted (run front s) .front)) (fronted (run front s) .outcome)

@@ -49,6 +49,10 @@ extendedBytes (some bytes) = bytes
 
 -- ---- Judging
 
+-- a verdict, where there is no record
+abbrev pub unjudged : Verdict → Judged
+unjudged v = record { verdict = v; description = nothing }
+
 -- the front of some bytes: a record with its length, its count of points, whether extended data are present, and its description
 unfoldable pub judged : Answer Record → Judged
 judged (ok r n) = record { verdict = verdict.Record n (length (r .points)) (present (r .extended)); description = r .description }

@@ -12,7 +12,7 @@ ghost use mathlib.Core.Bool.{true, cond};
 ghost use mathlib.Core.Option.{some, none};
 ghost use lib.Dec.{T};
 ghost use mathlib.Core.List.{map};
-ghost use Prim.Native.Nat.{_+_, _*_, _≤_, _<_};
+ghost use Prim.Native.Nat.{ℕ, _+_, _*_, _≤_, _<_};
 ghost use lib.ListN.{length, drop};
 ghost use Rattle.formats.specs.Reader.{readAt, times, run};
 ghost use Rattle.formats.specs.Told.{told, repeated, matched};
@@ -24,13 +24,14 @@ ghost use Rattle.formats.specs.Laid.{Room, Laid};
 ghost use Rattle.formats.specs.Lent.{writing};
 ghost use Rattle.channels.specs.Channel.{signedOf};
 ghost use Rattle.channels.specs.Stored.{fits, storedOf};
+ghost use Rattle.channels.specs.declared.Description.{Description};
 ghost use Rattle.descriptions.specs.Description.{isStored, encodeDescription};
 ghost use Rattle.descriptions.specs.Write.{flawOf};
 ghost use Rattle.descriptions.specs.declared.Flaw.the-variants.{None};
 ghost use Rattle.records.specs.Record.{sample, point, extension, fullRecord, storedFrom, stored, widths, width, encodeSample, encodeExtended, encode, fitsSample};
 ghost use Rattle.records.specs.Front.{marks, opened, channelled, front};
-ghost use Rattle.records.specs.Layout.{noFront, fronted, nowhereLaid, laidExtension, laidPoints, layoutOf};
-ghost use Rattle.records.specs.Verdict.{numberOf, faultOf, judged, judgedWhole, extendedPlace, extendedSize, restPlace, restSize, pointedAt, placesIn};
+ghost use Rattle.records.specs.Layout.{storing, sampleSize, noFront, fronted, nowhereLaid, laidExtension, laidPoints, layoutOf};
+ghost use Rattle.records.specs.Verdict.{numberOf, faultOf, judged, unjudged, judgedWhole, extendedPlace, extendedSize, restPlace, restSize, pointedAt, placesIn};
 ghost use Rattle.records.specs.Write.{numberOf as writtenNumber, fitsEach, fitsRow, heldFrom, rowBytes, openingBytes, frontBytes, recordOf, checkValues, byFlaw, Passed, writeOf};
 ghost use Rattle.records.specs.declared.Written.the-variants as answers;
 ghost use Rattle.records.specs.Points.{sampled, taken, seat, placesAt, switched};
@@ -68,9 +69,9 @@ fn marks_end(s: &[u8]) -> Outcome
     }
 }
 
-// What stands before the points: the channels, whether extended data are announced, and the number of points.
+// What the points need of all that stands before them: of which channels they hold numbers, whether extended data are announced, and how many points there are.
 struct Front {
-    description: Description,
+    stored: [bool; 16],
     announced: bool,
     count: u32,
 }
@@ -84,11 +85,10 @@ struct Fronted {
 fn no_front(outcome: Outcome) -> Fronted
     ensures { λ r. ⌜ r ≡ noFront outcome ⌝ }
 {
-    let description = descriptions::nothing();
     Fronted {
         outcome: outcome,
         front: Front {
-            description: description,
+            stored: [false; 16],
             announced: false,
             count: 0,
         },
@@ -102,9 +102,9 @@ fn triple(high: u8, middle: u8, low: u8) -> u32
 }
 
 // The header's reserved byte (7.3.5), the body's opening byte (7.4.1) and the count of points (7.4.2).
-fn opened_at(s: &[u8], at: usize, description: Description) -> Fronted
+fn opened_at(s: &[u8], at: usize, stored: [bool; 16]) -> Fronted
     requires { ⌜ at ≤ length (now s) ⌝ }
-    ensures { λ r. ⌜ r ≡ fronted (readAt (opened description) (now (s .entry)) at) ⌝ }
+    ensures { λ r. ⌜ ((d : Description) → stored ≡ map isStored (d .channels) → r ≡ fronted (readAt (opened d) (now (s .entry)) at)) ⌝ }
 {
     if s.len() - at < 1 {
         return no_front(Outcome::Short);
@@ -125,7 +125,7 @@ fn opened_at(s: &[u8], at: usize, description: Description) -> Fronted
     Fronted {
         outcome: Outcome::Done(at + 5),
         front: Front {
-            description: description,
+            stored: stored,
             announced: opening == 128,
             count: triple(s[at + 2], s[at + 3], s[at + 4]),
         },
@@ -137,23 +137,23 @@ fn front_of(s: &[u8]) -> Fronted
     ensures { λ r. ⌜ r ≡ fronted (run front (now (s .entry))) ⌝ }
 {
     match marks_end(s) {
-        Outcome::Done(at) => described_at(s, at),
+        Outcome::Done(at) => measured_at(s, at),
         Outcome::Short => no_front(Outcome::Short),
         Outcome::Bad(k, p) => no_front(Outcome::Bad(k, p)),
     }
 }
 
 // The channels, and what stands between them and the points.
-fn described_at(s: &[u8], at: usize) -> Fronted
+fn measured_at(s: &[u8], at: usize) -> Fronted
     requires { ⌜ at ≤ length (now s) ⌝ }
     ensures { λ r. ⌜ r ≡ fronted (readAt channelled (now (s .entry)) at) ⌝ }
 {
-    let described = descriptions::read(s, at, Format::Full);
-    let outcome = described.outcome;
+    let measured = descriptions::measure(s, at, Format::Full);
+    let outcome = measured.outcome;
     match outcome {
         Outcome::Done(next) => {
-            let description = described.description;
-            opened_at(s, next, description)
+            let stored = measured.stored;
+            opened_at(s, next, stored)
         }
         Outcome::Short => no_front(Outcome::Short),
         Outcome::Bad(k, p) => no_front(Outcome::Bad(k, p)),
@@ -273,16 +273,30 @@ pub fn point_width(description: Description) -> usize
     width_from(description, 0)
 }
 
-// Where a sample point ends whose switch stands `offset` bytes behind its start: of its bytes only the switch is looked at.
-fn point_end(s: &[u8], start: usize, width: usize, offset: usize) -> Outcome
-    requires { ⌜ (start ≤ length (now s)) × (offset < width) × (width < 33) ⌝ }
-    ensures { λ r. ⌜ r ≡ switched (now (s .entry)) start width offset ⌝ }
+// A sample point that is cut, whose switch stands `offset` bytes behind its start: the switch is looked at where it is there.
+fn cut_end(s: &[u8], start: usize, offset: usize) -> Outcome
+    requires { ⌜ start ≤ length (now s) ⌝ }
+    ensures { λ r. ⌜ ((width : ℕ) → length (now (s .entry)) < start + width → r ≡ switched (now (s .entry)) start width offset) ⌝ }
 {
     if s.len() - start <= offset {
         return Outcome::Short;
     }
     match channels::state_of(s[start + offset]) {
-        Switch::State(_) => jump(s, start, width),
+        Switch::State(_) => Outcome::Short,
+        Switch::NotAdmitted => Outcome::Bad(8, start + offset),
+    }
+}
+
+// Where a sample point ends: of its bytes only the switch is looked at.
+fn point_end(s: &[u8], start: usize, width: usize, offset: usize) -> Outcome
+    requires { ⌜ (start ≤ length (now s)) × (offset < width) × (width < 33) ⌝ }
+    ensures { λ r. ⌜ r ≡ switched (now (s .entry)) start width offset ⌝ }
+{
+    if s.len() - start < width {
+        return cut_end(s, start, offset);
+    }
+    match channels::state_of(s[start + offset]) {
+        Switch::State(_) => Outcome::Done(start + width),
         Switch::NotAdmitted => Outcome::Bad(8, start + offset),
     }
 }
@@ -318,16 +332,37 @@ fn jump(s: &[u8], start: usize, size: usize) -> Outcome
     Outcome::Done(start + size)
 }
 
-// The sample points of a record (7.4.2).
-fn judge_points(s: &[u8], start: usize, d: Description, count: u32) -> Outcome
+// How many bytes a channel has in a sample point.
+fn sample_size(channel: usize) -> usize
+    ensures { λ r. ⌜ (r ≡ sampleSize channel) × (r ≤ 2) ⌝ }
+{
+    if channel == channels::S { 1 } else { 2 }
+}
+
+// How many bytes of a sample point the channels from `first` on have, where it holds numbers of these channels.
+fn stored_width(stored: [bool; 16], first: usize) -> usize
+    ensures { λ r. ⌜ (r ≡ widths (storedFrom first (drop first (storing stored .channels)))) × (r < 33) ⌝ }
+{
+    let mut w: usize = 0;
+    let mut i: usize = first;
+    while i < 16 {
+        if stored[i] {
+            w += sample_size(i);
+        }
+        i += 1;
+    }
+    w
+}
+
+// The sample points of a record (7.4.2), which hold numbers of these channels.
+fn judge_points(s: &[u8], start: usize, stored: [bool; 16], count: u32) -> Outcome
     requires { ⌜ start ≤ length (now s) ⌝ }
-    ensures { λ r. ⌜ r ≡ told (readAt (times count (point d)) (now (s .entry)) start) ⌝ }
+    ensures { λ r. ⌜ r ≡ told (readAt (times count (point (storing stored))) (now (s .entry)) start) ⌝ }
 {
     let n = count as usize;
-    let width = width_from(d, 0);
-    let switch = d.channels[channels::S];
-    if descriptions::is_stored(switch) {
-        let offset = width - width_from(d, channels::S);
+    let width = stored_width(stored, 0);
+    if stored[channels::S] {
+        let offset = width - stored_width(stored, channels::S);
         return walk_points(s, start, width, offset, n);
     }
     jump(s, start, n * width)
@@ -348,10 +383,13 @@ fn extension_end(s: &[u8], start: usize, announced: bool) -> Outcome
     jump(s, start + 2, size as usize)
 }
 
-// Where the parts of a record lie: how it ended, its front, the place of the first point, and the place behind the last.
+// Where the parts of a record lie: how it ended, whether extended data are announced, how many points there are and how wide,
+// the place of the first point, and the place behind the last.
 struct Layout {
     outcome: Outcome,
-    front: Front,
+    announced: bool,
+    count: u32,
+    width: usize,
     points: usize,
     extension: usize,
 }
@@ -359,11 +397,11 @@ struct Layout {
 fn unlaid(outcome: Outcome) -> Layout
     ensures { λ r. ⌜ r ≡ nowhereLaid outcome ⌝ }
 {
-    let fronted = no_front(outcome);
-    let front = fronted.front;
     Layout {
         outcome: outcome,
-        front: front,
+        announced: false,
+        count: 0,
+        width: 0,
         points: 0,
         extension: 0,
     }
@@ -389,8 +427,8 @@ fn laid_points(s: &[u8], front: Front, points: usize) -> Layout
     requires { ⌜ points ≤ length (now s) ⌝ }
     ensures { λ r. ⌜ r ≡ laidPoints (now (s .entry)) front points ⌝ }
 {
-    let description = front.description;
-    match judge_points(s, points, description, front.count) {
+    let stored = front.stored;
+    match judge_points(s, points, stored, front.count) {
         Outcome::Done(at) => laid_extension(s, front, points, at),
         Outcome::Short => unlaid(Outcome::Short),
         Outcome::Bad(k, p) => unlaid(Outcome::Bad(k, p)),
@@ -402,12 +440,17 @@ fn laid_extension(s: &[u8], front: Front, points: usize, extension: usize) -> La
     ensures { λ r. ⌜ r ≡ laidExtension (now (s .entry)) front points extension ⌝ }
 {
     match extension_end(s, extension, front.announced) {
-        Outcome::Done(end) => Layout {
-            outcome: Outcome::Done(end),
-            front: front,
-            points: points,
-            extension: extension,
-        },
+        Outcome::Done(end) => {
+            let stored = front.stored;
+            Layout {
+                outcome: Outcome::Done(end),
+                announced: front.announced,
+                count: front.count,
+                width: stored_width(stored, 0),
+                points: points,
+                extension: extension,
+            }
+        }
         Outcome::Short => unlaid(Outcome::Short),
         Outcome::Bad(k, p) => unlaid(Outcome::Bad(k, p)),
     }
@@ -476,34 +519,60 @@ fn fault_of(number: u8) -> Fault
     }
 }
 
-// The front of some bytes.
+// The front of some bytes: whether a record stands there.
+pub fn verdict_of(bytes: &[u8]) -> Verdict
+    ensures { λ r. ⌜ r ≡ judged (run fullRecord (now (bytes .entry))) .verdict ⌝ }
+{
+    let layout = laid(bytes);
+    let outcome = layout.outcome;
+    match outcome {
+        Outcome::Done(end) => Verdict::Record {
+            length: end,
+            count: layout.count,
+            extended: layout.announced,
+        },
+        Outcome::Short => Verdict::Short,
+        Outcome::Bad(number, place) => Verdict::Refused {
+            fault: fault_of(number),
+            place: place,
+        },
+    }
+}
+
+// The description of a record stands behind its identifier and its version.
+const DESCRIPTION: usize = 8;
+
+// The front of some bytes, with the description of the record that stands there.
 pub fn judge(bytes: &[u8]) -> Judged
     ensures { λ r. ⌜ r ≡ judged (run fullRecord (now (bytes .entry))) ⌝ }
 {
-    let layout = laid(bytes);
-    let front = layout.front;
-    let description = front.description;
-    let outcome = layout.outcome;
-    match outcome {
-        Outcome::Done(end) => Judged {
-            verdict: Verdict::Record {
-                length: end,
-                count: front.count,
-                extended: front.announced,
-            },
-            description: description,
-        },
-        Outcome::Short => Judged {
-            verdict: Verdict::Short,
-            description: description,
-        },
-        Outcome::Bad(number, place) => Judged {
-            verdict: Verdict::Refused {
-                fault: fault_of(number),
-                place: place,
-            },
-            description: description,
-        },
+    let verdict = verdict_of(bytes);
+    match verdict {
+        Verdict::Record {
+            length: _,
+            count: _,
+            extended: _,
+        } => {
+            let described = descriptions::read(bytes, DESCRIPTION, Format::Full);
+            let description = described.description;
+            Judged {
+                verdict: verdict,
+                description: description,
+            }
+        }
+        Verdict::Short => unjudged(verdict),
+        Verdict::Refused { fault: _, place: _ } => unjudged(verdict),
+    }
+}
+
+// A verdict, where there is no record.
+fn unjudged(verdict: Verdict) -> Judged
+    ensures { λ r. ⌜ r ≡ unjudged verdict ⌝ }
+{
+    let description = descriptions::nothing();
+    Judged {
+        verdict: verdict,
+        description: description,
     }
 }
 
@@ -545,8 +614,7 @@ pub fn extended<'a>(bytes: &'a [u8]) -> &'a [u8]
     let outcome = layout.outcome;
     match outcome {
         Outcome::Done(end) => {
-            let front = layout.front;
-            if front.announced {
+            if layout.announced {
                 let start = layout.extension + 2;
                 &bytes[start..end]
             } else {
@@ -587,8 +655,7 @@ pub fn judge_point(bytes: &[u8], index: usize) -> Pointed
     let outcome = layout.outcome;
     match outcome {
         Outcome::Done(_) => {
-            let front = layout.front;
-            if index < (front.count as usize) {
+            if index < (layout.count as usize) {
                 Pointed::Point
             } else {
                 Pointed::NoPoint
@@ -610,11 +677,10 @@ pub fn point(bytes: &[u8], index: usize) -> [Place; 16]
     let outcome = layout.outcome;
     match outcome {
         Outcome::Done(_) => {
-            let front = layout.front;
-            let description = front.description;
-            if index < (front.count as usize) {
-                let width = width_from(description, 0);
-                point_at(bytes, layout.points + index * width, description)
+            if index < (layout.count as usize) {
+                let described = descriptions::read(bytes, DESCRIPTION, Format::Full);
+                let description = described.description;
+                point_at(bytes, layout.points + index * layout.width, description)
             } else {
                 [Place::Absent; 16]
             }

@@ -13,7 +13,7 @@ use Rattle.formats.specs.Law.{whole, refused}
 use Rattle.records.specs.Record.{Record, fullRecord}
 use Rattle.records.specs.Verdict.{judged}
 use Rattle.records.specs.declared.Fault.{Fault}
-use Rattle.records.specs.declared.Judged.{Judged}
+use Rattle.records.specs.declared.Verdict.{Verdict}
 use Rattle.records.specs.declared.Verdict.the-variants as verdict
 use Rattle.walks.specs.Walk.{stays, stepped, stepOf}
 use Rattle.walks.specs.declared.Found.the-variants as found
@@ -21,26 +21,26 @@ use Rattle.walks.specs.declared.Step.{Step}
 
 -- ---- By the answer of reading
 
-module _ (place : ℕ) (r : Judged) where
-  record-read : (x : Answer Record) → r ≡ judged x → {n k : ℕ} {t : Bool} → r .verdict ≡ verdict.Record n k t
-      → ((v : Record) × (x ≡ ok v n)) × (_≡_ {A = Step} (record { found = found.Record n k t; next = place + n }) (stepped place x))
+module _ (place : ℕ) (v : Verdict) where
+  record-read : (x : Answer Record) → v ≡ judged x .verdict → {n k : ℕ} {t : Bool} → v ≡ verdict.Record n k t
+      → ((r : Record) × (x ≡ ok r n)) × (_≡_ {A = Step} (record { found = found.Record n k t; next = place + n }) (stepped place x))
   unfolding judged stepped
-  record-read (ok v m) e g = let q = ap (λ y. y .verdict) e in ((v, cc), cc)
-  record-read short e g = impossible (cc (ap (λ y. y .verdict) e))
-  record-read (bad j p) e g = impossible (cc (ap (λ y. y .verdict) e))
+  record-read (ok r m) e g = ((r, cc), cc)
+  record-read short e g = impossible (cc)
+  record-read (bad j p) e g = impossible (cc)
 
-  short-read : (x : Answer Record) → r ≡ judged x → r .verdict ≡ verdict.Short → stays found.Short place ≡ stepped place x
+  short-read : (x : Answer Record) → v ≡ judged x .verdict → v ≡ verdict.Short → stays found.Short place ≡ stepped place x
   unfolding judged stepped
-  short-read (ok v m) e g = impossible (cc (ap (λ y. y .verdict) e))
+  short-read (ok r m) e g = impossible (cc)
   short-read short e g = refl
-  short-read (bad j p) e g = impossible (cc (ap (λ y. y .verdict) e))
+  short-read (bad j p) e g = impossible (cc)
 
-  refused-read : (x : Answer Record) → r ≡ judged x → {f : Fault} {p : ℕ} → r .verdict ≡ verdict.Refused f p
+  refused-read : (x : Answer Record) → v ≡ judged x .verdict → {f : Fault} {p : ℕ} → v ≡ verdict.Refused f p
       → ((k : ℕ) × (x ≡ bad k p)) × (stays (found.Refused f (place + p)) place ≡ stepped place x)
   unfolding judged stepped
-  refused-read (ok v m) e g = impossible (cc (ap (λ y. y .verdict) e))
-  refused-read short e g = impossible (cc (ap (λ y. y .verdict) e))
-  refused-read (bad j q) e g = let z = ap (λ y. y .verdict) e in ((j, cc), cc)
+  refused-read (ok r m) e g = impossible (cc)
+  refused-read short e g = impossible (cc)
+  refused-read (bad j q) e g = ((j, cc), cc)
 
 -- ---- At a place of a file
 
@@ -48,32 +48,32 @@ pub at-end : (file : List ℕ) (place : ℕ) → length file ≤ place → stays
 unfolding stepOf
 at-end file place h = rw (le-ltb place (length file) h)
 
-module _ (file : List ℕ) (place : ℕ) (inside : place < length file) (r : Judged) (e : r ≡ judged (run fullRecord (take (length file - place) (drop place file)))) where
+module _ (file : List ℕ) (place : ℕ) (inside : place < length file) (v : Verdict) (e : v ≡ judged (run fullRecord (take (length file - place) (drop place file))) .verdict) where
   -- what is lent from a place on is all that stands there
-  judgement : r ≡ judged (run fullRecord (drop place file))
+  judgement : v ≡ judged (run fullRecord (drop place file)) .verdict
   judgement = rw (take-all (length file - place) (drop place file) (simp length-drop (omega arith))) at e
 
   read-there : stepped place (run fullRecord (drop place file)) ≡ stepOf file place
   unfolding stepOf
   read-there = rw (lt-ltb place (length file) inside)
 
-  module _ {n k : ℕ} {t : Bool} (g : r .verdict ≡ verdict.Record n k t) where
+  module _ {n k : ℕ} {t : Bool} (g : v ≡ verdict.Record n k t) where
     pub record-ends : place + n ≤ length file
     record-ends =
-        let x = record-read place r (run fullRecord (drop place file)) judgement g .0 in
+        let x = record-read place v (run fullRecord (drop place file)) judgement g .0 in
         omega (arith, whole fullRecord (drop place file) (x .1) .within, length-drop place file)
 
     pub record-there : _≡_ {A = Step} (record { found = found.Record n k t; next = place + n }) (stepOf file place)
-    record-there = record-read place r (run fullRecord (drop place file)) judgement g .1 ∙ read-there
+    record-there = record-read place v (run fullRecord (drop place file)) judgement g .1 ∙ read-there
 
-  pub short-there : r .verdict ≡ verdict.Short → stays found.Short place ≡ stepOf file place
-  short-there g = short-read place r (run fullRecord (drop place file)) judgement g ∙ read-there
+  pub short-there : v ≡ verdict.Short → stays found.Short place ≡ stepOf file place
+  short-there g = short-read place v (run fullRecord (drop place file)) judgement g ∙ read-there
 
-  module _ {f : Fault} {p : ℕ} (g : r .verdict ≡ verdict.Refused f p) where
+  module _ {f : Fault} {p : ℕ} (g : v ≡ verdict.Refused f p) where
     pub refusal-within : place + p < length file
     refusal-within =
-        let x = refused-read place r (run fullRecord (drop place file)) judgement g .0 in
+        let x = refused-read place v (run fullRecord (drop place file)) judgement g .0 in
         omega (arith, refused fullRecord (drop place file) (x .1) .within, length-drop place file)
 
     pub refused-there : stays (found.Refused f (place + p)) place ≡ stepOf file place
-    refused-there = refused-read place r (run fullRecord (drop place file)) judgement g .1 ∙ read-there
+    refused-there = refused-read place v (run fullRecord (drop place file)) judgement g .1 ∙ read-there

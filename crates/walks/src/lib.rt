@@ -42,8 +42,7 @@ pub fn step_at(file: &[u8], place: usize) -> Step
     if file.len() <= place {
         return stay(Found::End, place);
     }
-    let judged = records::judge(&file[place..]);
-    let verdict = judged.verdict;
+    let verdict = records::verdict_of(&file[place..]);
     match verdict {
         Verdict::Record {
             length,

@@ -1,46 +1,56 @@
--- `records::judge` meets its contract: the layout ends as reading does, and has the record's own numbers.
+-- `records::judge` meets its contract: where the verdict is a record, its description stands behind the identifier and the version.
 use mathlib.Core.Path.{_≡_, sym, _∙_}
-use Rattle.records.proofs.Verdicts.{judged-record, judged-short, judged-bad}
+use Rattle.channels.specs.Channel.{widthOf}
+use Rattle.records.proofs.Verdicts.{judged-record, judged-short, judged-refused}
 use borrow.Author.Needs.{needs}
 use Rattle.records.proofs.judge.Statement.{statement}
 use Rattle.records.proofs.judge.Tie as tie
 
-laid-requires : tie.Need-laid-requires
-laid-requires c κs = search needs
-
-enum-known-outcome : tie.Need-enum-known-outcome
-enum-known-outcome c = search needs
+verdict-of-requires : tie.Need-verdict-of-requires
+verdict-of-requires c κs = search needs
 
 enum-told : tie.Need-enum-told
 enum-told c = search needs
 
-enum-known-outcome-2 : tie.Need-enum-known-outcome-2
-enum-known-outcome-2 c = search needs
+read-requires : tie.Need-read-requires
+read-requires c κs = search needs
 
-fault-of-requires : tie.Need-fault-of-requires
-fault-of-requires c κs = search needs
+enum-told-2 : tie.Need-enum-told-2
+enum-told-2 c = search needs
+
+unjudged-requires : tie.Need-unjudged-requires
+unjudged-requires c κs = search needs
+
+enum-told-3 : tie.Need-enum-told-3
+enum-told-3 c = search needs
+
+unjudged-requires-2 : tie.Need-unjudged-requires-2
+unjudged-requires-2 c κs = search needs
 
 returns : tie.Need-returns
-returns c = let a = c .before .before .before .before .before in judged-record _ _ (a .laid .ensures) (c .before .outcome .given .1)
+unfolding widthOf
+returns c =
+    let v = c .before .before .before .before .verdict-of in
+    (λ i. record { verdict = v .result; description = c .before .read .ensures i .description })
+    ∙ judged-record _ _ (v .ensures) (c .before .before .enum-told .given .1)
 
 returns-2 : tie.Need-returns-2
-returns-2 c = let a = c .before .before .before .before in judged-short _ _ (a .laid .ensures) (c .enum-told .given .1)
+returns-2 c = c .unjudged .ensures ∙ judged-short _ _ (c .before .before .before .verdict-of .ensures) (c .before .enum-told2 .given .1)
 
 returns-3 : tie.Need-returns-3
-returns-3 c =
-    let k = c .before .before in
-    let a = k .before .before .before .before in
-    rw (c .fault-of .ensures) (judged-bad _ _ (a .laid .ensures) (k .outcome2 .given .1))
+returns-3 c = c .unjudged2 .ensures ∙ judged-refused _ _ (c .before .before .before .verdict-of .ensures) (c .before .enum-told3 .given .1)
 
 pub judge-spec : {M : Type 1} → statement M
 judge-spec =
     tie.close
     (tie.spec
-    laid-requires
-    enum-known-outcome
+    verdict-of-requires
     enum-told
-    enum-known-outcome-2
-    fault-of-requires
+    read-requires
+    enum-told-2
+    unjudged-requires
+    enum-told-3
+    unjudged-requires-2
     returns
     returns-2
     returns-3)

@@ -1,5 +1,7 @@
 -- `records::laid_extension` meets its contract: it lies where its end was found.
 use mathlib.Core.Path.{_≡_, sym, ap, _∙_}
+use Rattle.formats.specs.declared.Outcome.the-variants.{Done}
+use Rattle.records.specs.Record.{width, stored}
 use Rattle.records.specs.Layout.{laidIf, laidExtension}
 use borrow.Author.Needs.{needs}
 use Rattle.records.proofs.laid_extension.Statement.{statement}
@@ -10,6 +12,9 @@ extension-end-requires c κs = search needs
 
 enum-known-end : tie.Need-enum-known-end
 enum-known-end c = search needs
+
+stored-width-requires : tie.Need-stored-width-requires
+stored-width-requires c κs = search needs
 
 enum-told : tie.Need-enum-told
 enum-told c = search needs
@@ -24,8 +29,18 @@ unlaid-requires-2 : tie.Need-unlaid-requires-2
 unlaid-requires-2 c κs = search needs
 
 returns : tie.Need-returns
-unfolding laidExtension laidIf
-returns c = sym (ap (laidIf _ _ _) (sym (c .before .before .before .extension-end .ensures) ∙ c .before .end .given .1))
+unfolding laidExtension laidIf width stored
+returns c =
+    let a = c .before .before .before in
+    (λ i. record {
+      outcome = Done (a .end .given .0 .0);
+      announced = a .before .before .before .before .args .front .announced;
+      count = a .before .before .before .before .args .front .count;
+      width = c .stored-width .ensures .0 i;
+      points = a .before .before .before .before .args .points;
+      extension = a .before .before .before .before .args .extension;
+    })
+    ∙ sym (ap (laidIf _ _ _) (sym (a .before .before .extension-end .ensures) ∙ a .end .given .1))
 
 returns-2 : tie.Need-returns-2
 unfolding laidExtension laidIf
@@ -41,6 +56,7 @@ laid-extension-spec =
     (tie.spec
     extension-end-requires
     enum-known-end
+    stored-width-requires
     enum-told
     unlaid-requires
     enum-known-k

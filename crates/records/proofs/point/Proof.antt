@@ -3,7 +3,7 @@ use mathlib.Core.Path.{_≡_, sym, ap, _∙_}
 use Prim.Native.Nat.{_*_}
 use native.Mathlib.Nat.{mul-le-mul}
 use native.Mathlib.Omega.{arith}
-use Rattle.records.specs.Record.{width, stored}
+use Rattle.channels.specs.Channel.{widthOf}
 use Rattle.records.specs.Verdict.{placesIn}
 use Rattle.records.proofs.Verdicts.{places-there, places-none, point-within, short-read, bad-read}
 use borrow.Author.Needs.{needs}
@@ -19,25 +19,20 @@ enum-told c = search needs
 cast-if1 : tie.Need-cast-if1
 cast-if1 c = search needs
 
-width-from-requires : tie.Need-width-from-requires
-width-from-requires c κs = search needs
-
--- the width of a point
-wide : (c : tie.After-width-from) → c .width-from .result ≡ width (c .before .before .before .before .before .before .before .laid .result .front .description)
-unfolding width stored
-wide c = c .width-from .ensures .0
+read-requires : tie.Need-read-requires
+read-requires c κs = search needs
 
 mul-point-at : tie.Need-mul-point-at
 mul-point-at c =
-    let s = c .before .before in
-    omega (arith, mul-le-mul {n₁ = s .before .before .before .before .before .before .before .args .index} {m₁ = c .width-from .result} {n₂ = 4294967295} {m₂ = 32} (omega arith) (omega arith))
+    let r = c .before .before in
+    let t = r .before .before .before in
+    omega (arith, point-within _ _ (t .before .before .laid .ensures) (t .enum-told .given .1) _ (r .before .if1 .taken))
 
 add-point-at : tie.Need-add-point-at
 add-point-at c =
-    let w = c .before in
-    let t = w .before .before .before .before .before in
-    rw (wide w)
-    (omega (arith, point-within _ _ (t .before .before .laid .ensures) (t .enum-told .given .1) _ (w .before .if1 .taken)))
+    let r = c .before .before .before in
+    let t = r .before .before .before in
+    omega (arith, point-within _ _ (t .before .before .laid .ensures) (t .enum-told .given .1) _ (r .before .if1 .taken))
 
 point-at-requires : tie.Need-point-at-requires
 point-at-requires c κs = search needs
@@ -49,14 +44,16 @@ enum-told-3 : tie.Need-enum-told-3
 enum-told-3 c = search needs
 
 returns : tie.Need-returns
+unfolding widthOf
 returns c =
-    let w = c .before .before in
-    let t = w .before .before .before .before .before in
-    c .point-at .ensures ∙ rw (wide w) (places-there _ _ (t .before .before .laid .ensures) (t .enum-told .given .1) _ (w .before .if1 .taken))
+    let r = c .before .before .before .before in
+    let t = r .before .before .before in
+    c .point-at .ensures
+    ∙ places-there _ _ (t .before .before .laid .ensures) (t .enum-told .given .1) _ (r .before .if1 .taken) _ (ap (λ z. z .description) (r .read .ensures))
 
 returns-2 : tie.Need-returns-2
 returns-2 c =
-    let t = c .before .before .before .before in
+    let t = c .before .before in
     places-none _ _ (t .before .before .laid .ensures) (t .enum-told .given .1) _ (c .if1 .left)
 
 returns-3 : tie.Need-returns-3
@@ -74,7 +71,7 @@ point-spec =
     laid-requires
     enum-told
     cast-if1
-    width-from-requires
+    read-requires
     mul-point-at
     add-point-at
     point-at-requires

@@ -15,17 +15,17 @@ returns c =
     let a = c .before .before .before .args in
     c .stay .ensures ∙ at-end (now (a .file)) (a .place) (omega arith)
 
-sub-judge : tie.Need-sub-judge
-sub-judge c = search needs
+sub-verdict-of : tie.Need-sub-verdict-of
+sub-verdict-of c = search needs
 
-part-judge-start : tie.Need-part-judge-start
-part-judge-start c = search needs
+part-verdict-of-start : tie.Need-part-verdict-of-start
+part-verdict-of-start c = search needs
 
-part-judge-end : tie.Need-part-judge-end
-part-judge-end c = search needs
+part-verdict-of-end : tie.Need-part-verdict-of-end
+part-verdict-of-end c = search needs
 
-judge-requires : tie.Need-judge-requires
-judge-requires c κs = search needs
+verdict-of-requires : tie.Need-verdict-of-requires
+verdict-of-requires c κs = search needs
 
 enum-known-verdict : tie.Need-enum-known-verdict
 enum-known-verdict c = search needs
@@ -34,7 +34,7 @@ add-next : tie.Need-add-next
 add-next c =
     let k = c .before .before .before in
     let start = k .before .before .before .before in
-    record { fits = omega (arith, record-ends (now (start .args .file)) (start .args .place) (omega (arith, k .before .before .if1 .left)) _ (k .judge .ensures) (c .before .verdict .given .1), start .good .0) }
+    record { fits = omega (arith, record-ends (now (start .args .file)) (start .args .place) (omega (arith, k .before .before .if1 .left)) _ (k .verdict-of .ensures) (c .before .verdict .given .1), start .good .0) }
 
 enum-told : tie.Need-enum-told
 enum-told c = search needs
@@ -49,7 +49,7 @@ add-refused : tie.Need-add-refused
 add-refused c =
     let k = c .before .before .before in
     let start = k .before .before .before .before in
-    record { fits = omega (arith, refusal-within (now (start .args .file)) (start .args .place) (omega (arith, k .before .before .if1 .left)) _ (k .judge .ensures) (c .before .verdict2 .given .1), start .good .0) }
+    record { fits = omega (arith, refusal-within (now (start .args .file)) (start .args .place) (omega (arith, k .before .before .if1 .left)) _ (k .verdict-of .ensures) (c .before .verdict2 .given .1), start .good .0) }
 
 stay-requires-3 : tie.Need-stay-requires-3
 stay-requires-3 c κs = search needs
@@ -58,19 +58,19 @@ returns-2 : tie.Need-returns-2
 returns-2 c =
     let k = c .before .before .before in
     let start = k .before .before .before .before in
-    record-there (now (start .args .file)) (start .args .place) (omega (arith, k .before .before .if1 .left)) _ (k .judge .ensures) (c .before .verdict .given .1)
+    record-there (now (start .args .file)) (start .args .place) (omega (arith, k .before .before .if1 .left)) _ (k .verdict-of .ensures) (c .before .verdict .given .1)
 
 returns-3 : tie.Need-returns-3
 returns-3 c =
     let k = c .before .before .before in
     let start = k .before .before .before .before in
-    c .stay2 .ensures ∙ short-there (now (start .args .file)) (start .args .place) (omega (arith, k .before .before .if1 .left)) _ (k .judge .ensures) (c .before .enum-told .given .1)
+    c .stay2 .ensures ∙ short-there (now (start .args .file)) (start .args .place) (omega (arith, k .before .before .if1 .left)) _ (k .verdict-of .ensures) (c .before .enum-told .given .1)
 
 returns-4 : tie.Need-returns-4
 returns-4 c =
     let k = c .before .before .before .before in
     let start = k .before .before .before .before in
-    c .stay3 .ensures ∙ refused-there (now (start .args .file)) (start .args .place) (omega (arith, k .before .before .if1 .left)) _ (k .judge .ensures) (c .before .before .verdict2 .given .1)
+    c .stay3 .ensures ∙ refused-there (now (start .args .file)) (start .args .place) (omega (arith, k .before .before .if1 .left)) _ (k .verdict-of .ensures) (c .before .before .verdict2 .given .1)
 
 pub step-at-spec : {M : Type 1} → statement M
 step-at-spec =
@@ -78,10 +78,10 @@ step-at-spec =
     (tie.spec
     stay-requires
     returns
-    sub-judge
-    part-judge-start
-    part-judge-end
-    judge-requires
+    sub-verdict-of
+    part-verdict-of-start
+    part-verdict-of-end
+    verdict-of-requires
     enum-known-verdict
     add-next
     enum-told
