@@ -44,3 +44,8 @@ module _ (d : Description) where
   pub storing-width : width (storing (map isStored (d .channels))) ≡ width d
   unfolding width stored
   storing-width = ap widths (storing-from 0 (d .channels))
+
+  -- the width of a point, from the channels that it holds
+  pub held-width : (l : List Bool) → l ≡ map isStored (d .channels) → widths (storedFrom 0 (storing l .channels)) ≡ width d
+  unfolding width stored
+  held-width l e = ap (λ x. widths (storedFrom 0 (storing x .channels))) e ∙ storing-width

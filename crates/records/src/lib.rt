@@ -246,20 +246,36 @@ pub fn point_at(bytes: &[u8], start: usize, description: Description) -> [Place;
     places
 }
 
-// How many bytes of a sample point the channels from `first` on have.
-fn width_from(d: Description, first: usize) -> usize
-    ensures { λ r. ⌜ (r ≡ widths (storedFrom first (drop first (d .channels)))) × (r < 33) ⌝ }
+// Which channels a sample point holds a number of: what the loops over values are lent, where the description would be copied.
+fn stored_channels(d: Description) -> [bool; 16]
+    ensures { λ r. ⌜ (r ≡ map isStored (d .channels)) × (length r ≡ 16) ⌝ }
+{
+    let mut held = [false; 16];
+    let mut i: usize = 0;
+    while i < 16 {
+        let c = d.channels[i];
+        held[i] = descriptions::is_stored(c);
+        i += 1;
+    }
+    held
+}
+
+// How many bytes a channel has in a sample point.
+fn sample_size(channel: usize) -> usize
+    ensures { λ r. ⌜ (r ≡ sampleSize channel) × (r ≤ 2) ⌝ }
+{
+    if channel == channels::S { 1 } else { 2 }
+}
+
+// How many bytes of a sample point the channels from `first` on have, where it holds numbers of these channels.
+fn stored_width(stored: [bool; 16], first: usize) -> usize
+    ensures { λ r. ⌜ (r ≡ widths (storedFrom first (drop first (storing stored .channels)))) × (r < 33) ⌝ }
 {
     let mut w: usize = 0;
     let mut i: usize = first;
     while i < 16 {
-        let c = d.channels[i];
-        if descriptions::is_stored(c) {
-            if i == channels::S {
-                w += 1;
-            } else {
-                w += 2;
-            }
+        if stored[i] {
+            w += sample_size(i);
         }
         i += 1;
     }
@@ -270,7 +286,8 @@ fn width_from(d: Description, first: usize) -> usize
 pub fn point_width(description: Description) -> usize
     ensures { λ r. ⌜ (r ≡ width description) × (r < 33) ⌝ }
 {
-    width_from(description, 0)
+    let stored = stored_channels(description);
+    stored_width(stored, 0)
 }
 
 // A sample point that is cut, whose switch stands `offset` bytes behind its start: the switch is looked at where it is there.
@@ -330,28 +347,6 @@ fn jump(s: &[u8], start: usize, size: usize) -> Outcome
         return Outcome::Short;
     }
     Outcome::Done(start + size)
-}
-
-// How many bytes a channel has in a sample point.
-fn sample_size(channel: usize) -> usize
-    ensures { λ r. ⌜ (r ≡ sampleSize channel) × (r ≤ 2) ⌝ }
-{
-    if channel == channels::S { 1 } else { 2 }
-}
-
-// How many bytes of a sample point the channels from `first` on have, where it holds numbers of these channels.
-fn stored_width(stored: [bool; 16], first: usize) -> usize
-    ensures { λ r. ⌜ (r ≡ widths (storedFrom first (drop first (storing stored .channels)))) × (r < 33) ⌝ }
-{
-    let mut w: usize = 0;
-    let mut i: usize = first;
-    while i < 16 {
-        if stored[i] {
-            w += sample_size(i);
-        }
-        i += 1;
-    }
-    w
 }
 
 // The sample points of a record (7.4.2), which hold numbers of these channels.
@@ -720,20 +715,6 @@ pub fn written_number(written: Written) -> u8
     }
 }
 
-// Which channels a sample point holds a number of: what the loops over values are lent, where the description would be copied.
-fn stored_channels(d: Description) -> [bool; 16]
-    ensures { λ r. ⌜ (r ≡ map isStored (d .channels)) × (length r ≡ 16) ⌝ }
-{
-    let mut held = [false; 16];
-    let mut i: usize = 0;
-    while i < 16 {
-        let c = d.channels[i];
-        held[i] = descriptions::is_stored(c);
-        i += 1;
-    }
-    held
-}
-
 // How many numbers a sample point holds.
 fn stored_count(held: [bool; 16]) -> usize
     ensures { λ r. ⌜ (r ≡ length (heldFrom 0 held)) × (r ≤ 16) ⌝ }
@@ -973,7 +954,7 @@ fn check_values(
         }
     }
     Written::Record {
-        length: record_size(described, width_from(d, 0), count, wanted, extended),
+        length: record_size(described, stored_width(held, 0), count, wanted, extended),
     }
 }
 

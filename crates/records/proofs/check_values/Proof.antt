@@ -15,6 +15,7 @@ use Rattle.records.specs.Record.{stored, width, encodeExtended}
 use Rattle.records.specs.Write.{fitsRow, heldFrom}
 use Rattle.records.specs.WriteLaws.{at-count, at-amount, at-values, at-extended, at-record, held-stored, record-length}
 use borrow.Author.Needs.{needs}
+use Rattle.records.specs.Storing.{held-width}
 use Rattle.records.proofs.check_values.Statement.{statement}
 use Rattle.records.proofs.check_values.Tie as tie
 
@@ -84,14 +85,14 @@ returns-4 c =
 small : (c : tie.Joined4) → T (start (marked (c .before .before)) .args .wanted) → length (start (marked (c .before .before)) .args .extended .now) < 65536
 small c h = ⊎-elim (λ w. omega (arith, w .1 .left)) (λ w. absurd (rw (w .left) at h)) (c .if4 .came)
 
-width-from-requires : tie.Need-width-from-requires
-width-from-requires c κs = search needs
+stored-width-requires : tie.Need-stored-width-requires
+stored-width-requires c κs = search needs
 
 record-size-requires : tie.Need-record-size-requires
 record-size-requires c κs =
     let j = c .before in
     let s = start (marked (j .before .before)) in
-    (omega (arith, s .pre, description-size 2 (s .args .d)), c .width-from .ensures .1, counted (marked (j .before .before)), small j)
+    (omega (arith, s .pre, description-size 2 (s .args .d)), c .stored-width .ensures .1, counted (marked (j .before .before)), small j)
 
 -- the size, by its parts
 module _ (c : tie.After-record-size) where
@@ -103,7 +104,9 @@ module _ (c : tie.After-record-size) where
 
   size : c .record-size .result ≡ length (encodeDescription 2 (asked .args .d)) + asked .args .count * width (asked .args .d) + extra + 13
   unfolding width stored
-  size = c .record-size .ensures ∙ ap₂ (λ x y. x + asked .args .count * y + extra + 13) (asked .pre) (c .before .width-from .ensures .0)
+  size =
+      let m = marked (c .before .before .before .before) in
+      c .record-size .ensures ∙ ap₂ (λ x y. x + asked .args .count * y + extra + 13) (asked .pre) (c .before .stored-width .ensures .0 ∙ held-width (asked .args .d) _ (m .stored-channels .ensures .0))
 
 returns-5 : tie.Need-returns-5
 returns-5 c =
@@ -126,6 +129,6 @@ check-values-spec =
     values-fit-requires
     returns-3
     returns-4
-    width-from-requires
+    stored-width-requires
     record-size-requires
     returns-5)
