@@ -22,7 +22,7 @@ use Rattle.channels.specs.Channel.{channels, signedOf}
 use Rattle.channels.specs.Stored.{valueOf}
 use Rattle.channels.specs.declared.Attribute.{Attribute}
 use Rattle.channels.specs.declared.Descriptor.{Descriptor}
-use Rattle.descriptions.specs.Description.{reserved, attribute, descriptor, channelOf, isStored}
+use Rattle.descriptions.specs.Description.{announced, reserved, attribute, descriptor, channelOf, isStored}
 use Rattle.descriptions.specs.Read.{measured, unmeasured, channelsFrom, attributesSize, descriptorSize}
 use Rattle.formats.specs.declared.Outcome.the-variants.{Done, Short, Bad}
 use Rattle.descriptions.specs.declared.Measured.{Measured}
@@ -75,29 +75,11 @@ unfolding attribute
 attribute-jumps w signed true = let e : w + 0 ≡ w = omega arith in rw e at (jumps-bind {B = Attribute} (number w) (λ n. done (record { given = true; number = valueOf w signed n })) w 0 (number-jumps w) (λ n. jumps-done _))
 attribute-jumps w signed false = jumps-done _
 
--- behind its byte
+-- what its byte announces
 module _ (w channel b : ℕ) where
-  abbrev behind : Reader Descriptor
-  behind = do
-    scaling ← attribute 2 false (bit 8 b)
-    minimum ← attribute w (signedOf channel) (bit 7 b)
-    maximum ← attribute w (signedOf channel) (bit 6 b)
-    mean ← attribute w (signedOf channel) (bit 5 b)
-    deviation ← attribute w false (bit 4 b)
-    done (record {
-      included = true;
-      scaling = scaling;
-      minimum = minimum;
-      maximum = maximum;
-      mean = mean;
-      deviation = deviation;
-      constant = bit 3 b;
-      detrended = bit 2 b;
-    })
-
-  behind-passes : Passes isStored behind (attributesSize w b) (not (bit 3 b))
+  announced-passes : Passes isStored (announced w channel b) (attributesSize w b) (not (bit 3 b))
   unfolding attributesSize
-  behind-passes =
+  announced-passes =
       passes-bind isStored _ _ _ _ _ (attribute-jumps 2 false (bit 8 b)) (λ scaling.
       passes-bind isStored _ _ _ _ _ (attribute-jumps w (signedOf channel) (bit 7 b)) (λ minimum.
       passes-bind isStored _ _ _ _ _ (attribute-jumps w (signedOf channel) (bit 6 b)) (λ maximum.
@@ -105,7 +87,7 @@ module _ (w channel b : ℕ) where
       passes-bind isStored _ _ _ _ _ (attribute-jumps w false (bit 4 b)) (λ deviation. passes-done isStored _)))))
 
 module _ (w channel : ℕ) (s : List ℕ) (at : ℕ) (h : at < length s) (q : reserved .holds (getD s at 0) ≡ true) where
-  past-byte : readAt (descriptor w channel) s at ≡ readAt (behind w channel (getD s at 0)) s (at + 1)
+  past-byte : readAt (descriptor w channel) s at ≡ readAt (announced w channel (getD s at 0)) s (at + 1)
   unfolding descriptor one bind
   past-byte = at-pass reserved _ s at h q
 
@@ -113,11 +95,11 @@ module _ (w channel : ℕ) (s : List ℕ) (at : ℕ) (h : at < length s) (q : re
       → mapped isStored (readAt (descriptor w channel) s at) ≡ ok (not (bit 3 (getD s at 0))) (at + descriptorSize w (getD s at 0))
   unfolding descriptorSize
   descriptor-over e =
-      ap (mapped isStored) past-byte ∙ behind-passes w channel (getD s at 0) .there s (at + 1) (omega arith) ∙ ap (ok (not (bit 3 (getD s at 0)))) (add-assoc at 1 (attributesSize w (getD s at 0)))
+      ap (mapped isStored) past-byte ∙ announced-passes w channel (getD s at 0) .there s (at + 1) (omega arith) ∙ ap (ok (not (bit 3 (getD s at 0)))) (add-assoc at 1 (attributesSize w (getD s at 0)))
 
   pub descriptor-cut : length s < at + descriptorSize w (getD s at 0) → mapped isStored (readAt (descriptor w channel) s at) ≡ short
   unfolding descriptorSize
-  descriptor-cut e = ap (mapped isStored) past-byte ∙ behind-passes w channel (getD s at 0) .cut s (at + 1) (omega arith) (omega arith)
+  descriptor-cut e = ap (mapped isStored) past-byte ∙ announced-passes w channel (getD s at 0) .cut s (at + 1) (omega arith) (omega arith)
 
 -- ---- Its size, counted from the bits
 

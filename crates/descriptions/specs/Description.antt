@@ -50,10 +50,9 @@ attribute w signed true = do
   done (record { given = true; number = valueOf w signed n })
 attribute w signed false = done noAttribute
 
--- a channel's descriptor byte, and the attributes that its bits 8 to 4 announce (7.3.4.2)
-unfoldable pub descriptor : (w channel : ℕ) → Reader Descriptor
-descriptor w channel = do
-  b ← one reserved
+-- what a descriptor byte announces: the attributes of its bits 8 to 4, and the two flags of its bits 3 and 2 (7.3.4.2)
+abbrev pub announced : (w channel b : ℕ) → Reader Descriptor
+announced w channel b = do
   scaling ← attribute 2 false (bit 8 b)
   minimum ← attribute w (signedOf channel) (bit 7 b)
   maximum ← attribute w (signedOf channel) (bit 6 b)
@@ -69,6 +68,12 @@ descriptor w channel = do
     constant = bit 3 b;
     detrended = bit 2 b;
   })
+
+-- a channel's descriptor byte, and what it announces
+unfoldable pub descriptor : (w channel : ℕ) → Reader Descriptor
+descriptor w channel = do
+  b ← one reserved
+  announced w channel b
 
 -- channel 0 has the top bit of the sixteen inclusion bits, channel 15 the lowest (7.3.4.1)
 unfoldable pub includes : (inclusion channel : ℕ) → Bool

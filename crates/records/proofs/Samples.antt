@@ -24,7 +24,7 @@ use Rattle.channels.specs.declared.Descriptor.{Descriptor}
 use Rattle.channels.specs.declared.Description.{Description}
 use Rattle.descriptions.specs.Description.{absent, isStored}
 use Rattle.records.specs.Record.{switch, sample, point, storedFrom, stored, widths, width}
-use Rattle.records.specs.Layout.{sampleSize}
+use Rattle.records.specs.Record.{sampleSize}
 use Rattle.formats.specs.Jump.{Jumps, ends-there, ends-short, jumps-done, jumps-bind, jumps-map, jumps-times}
 
 -- ---- One number
@@ -97,7 +97,7 @@ module _ (ds : List Descriptor) (i : ℕ) (h : i < length ds) where
   width-out e = ap widths (stored-out ds i h e)
 
   pub width-in : isStored (getD ds i absent) ≡ true → more i ≡ sampleSize i + more (i + 1)
-  unfolding widths sampleSize
+  unfolding widths
   width-in e = ap widths (stored-in ds i h e)
 
   pub width-switch : isStored (getD ds i absent) ≡ true → i ≡ S → more i ≡ 1 + more (i + 1)

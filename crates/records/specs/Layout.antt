@@ -1,14 +1,12 @@
 -- Where the parts of a record lie: what code finds when it goes over one.
-use mathlib.Core.Bool.{Bool, false, cond}
+use mathlib.Core.Bool.{Bool, false}
 use mathlib.Core.List.{List, map}
 use Prim.Native.Nat.{ℕ}
-use lib.Dec.{eqb}
 use lib.ListN.{replicate}
 use Rattle.formats.specs.Reader.{Answer, ok, short, bad, run, readAt, times}
 use Rattle.formats.specs.Told.{told}
 use Rattle.formats.specs.declared.Outcome.{Outcome}
 use Rattle.formats.specs.declared.Outcome.the-variants.{Done, Short, Bad}
-use Rattle.channels.specs.Channel.{S}
 use Rattle.channels.specs.declared.Description.{Description}
 use Rattle.descriptions.specs.Description.{noAttribute, isStored}
 use Rattle.records.specs.Record.{point, width, extension}
@@ -31,10 +29,6 @@ storing stored = record {
     detrended = false;
   }) stored;
 }
-
--- how many bytes a channel has in a sample point
-unfoldable pub sampleSize : (channel : ℕ) → ℕ
-sampleSize channel = cond (eqb channel S) 1 2
 
 -- what the points need of what stands before them
 abbrev pub frontOf : Heading → Front

@@ -81,10 +81,13 @@ fullRecord = do
   extended ← extension (bit 8 b)  -- the extended data (7.4.3)
   done (record { description = d; points = points; extended = extended })
 
--- how many bytes some channels have in a sample point, and all that are stored
+-- how many bytes a channel has in a sample point, then some channels, and all that are stored
+abbrev pub sampleSize : (channel : ℕ) → ℕ
+sampleSize channel = cond (eqb channel S) 1 2
+
 unfoldable pub widths : List ℕ → ℕ
 widths [] = 0
-widths (channel ∷ l) = cond (eqb channel S) 1 2 + widths l
+widths (channel ∷ l) = sampleSize channel + widths l
 
 unfoldable pub width : Description → ℕ
 width d = widths (stored d)

@@ -15,6 +15,7 @@ const LISTED: &str = "listings of valid records";
 
 pub fn ask_all(comparison: &mut Comparison, random: &mut Random) {
     every_set(comparison, random);
+    some_sets(comparison, random);
     every_flag(comparison, random);
     every_attribute(comparison, random);
     empty_points(comparison, random);
@@ -31,7 +32,18 @@ fn sets(comparison: &Comparison, random: &mut Random) -> Vec<u16> {
     sets
 }
 
+/// Every set with X and Y, without constants and with some, one point each.
 fn every_set(comparison: &mut Comparison, random: &mut Random) {
+    for others in 0..!X_AND_Y + 1 {
+        for constants in [Constants::None, Constants::Some] {
+            let parts = inputs::parts(random, X_AND_Y | others, constants, 1);
+            ask_briefly(comparison, &parts);
+        }
+    }
+}
+
+/// Some sets with several counts, asked everything.
+fn some_sets(comparison: &mut Comparison, random: &mut Random) {
     for set in sets(comparison, random) {
         for constants in [Constants::None, Constants::Some, Constants::All] {
             for count in [0, 1, random.between(2, 6)] {

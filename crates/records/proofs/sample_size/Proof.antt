@@ -2,16 +2,14 @@
 use native.Mathlib.Omega.{arith}
 use borrow.Author.Tests.{eq-eqb, ne-eqb}
 use Rattle.channels.specs.Channel.{S}
-use Rattle.records.specs.Layout.{sampleSize}
+use Rattle.records.specs.Record.{sampleSize}
 use Rattle.records.proofs.sample_size.Statement.{statement}
 use Rattle.records.proofs.sample_size.Tie as tie
 
 returns : tie.Need-returns
-unfolding sampleSize
 returns c = rw (eq-eqb _ S (c .if1 .taken)) (omega arith, omega arith)
 
 returns-2 : tie.Need-returns-2
-unfolding sampleSize
 returns-2 c = rw (ne-eqb _ S (c .if1 .left)) (omega arith, omega arith)
 
 pub sample-size-spec : {M : Type 1} → statement M
