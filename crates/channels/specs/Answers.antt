@@ -4,13 +4,16 @@ use mathlib.Core.Bool.{Bool}
 use Prim.Native.Nat.{ℕ}
 use lib.IntN.{ℤ}
 use Rattle.formats.specs.OneAnswer.{OneAnswer, named}
-use Rattle.channels.specs.Channel.{signedOf, widthOf}
+use Rattle.channels.specs.Channel.{signs, signedOf, widthOf}
 use Rattle.channels.specs.Stored.{valueOf, storedIf}
 use Rattle.channels.specs.Switch.{stateIf, byteIf}
 use Rattle.channels.specs.declared.Format.{Format}
 
 pub one-sign : (channel : ℕ) → OneAnswer (λ r. r ≡ signedOf channel)
 one-sign channel = named
+
+pub one-table : OneAnswer (λ r. r ≡ signs)
+one-table = named
 
 pub one-value : (format : Format) (signed : Bool) (number : ℕ) → OneAnswer (λ r. r ≡ valueOf (widthOf format) signed number)
 one-value format signed number = named

@@ -2,7 +2,7 @@
 ghost use mathlib.Core.Path.{_≡_};
 ghost use Prim.Native.Nat.{_^_};
 ghost use lib.IntN.{pos};
-ghost use Rattle.channels.specs.Channel.{signedOf, widthOf};
+ghost use Rattle.channels.specs.Channel.{signs, signedOf, widthOf};
 ghost use Rattle.channels.specs.Stored as stored;
 ghost use Rattle.channels.specs.Stored.{valueOf, storedIf};
 ghost use Rattle.channels.specs.Switch.{stateIf, byteIf};
@@ -101,6 +101,13 @@ pub fn is_signed(channel: usize) -> bool
     ensures { λ r. ⌜ r ≡ signedOf channel ⌝ }
 {
     if channel < 16 { SIGNED[channel] } else { false }
+}
+
+// The whole table, for a loop over channels: it is laid down once, and indexed for each number.
+pub fn signs() -> [bool; 16]
+    ensures { λ r. ⌜ r ≡ signs ⌝ }
+{
+    SIGNED
 }
 
 // What is added to a number before it is stored.

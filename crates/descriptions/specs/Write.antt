@@ -31,9 +31,9 @@ putRoom out start b = cond (leb (start + length b) (length out)) (writing (Done 
 -- a flaw comes before the room: the bytes stay as they were
 unfoldable pub putFlaw : Flaw → (out : List ℕ) (start : ℕ) (b : List ℕ) → Writing Written
 putFlaw None out start b = putRoom out start b
-putFlaw XOrY out start b = writing Flawed out
-putFlaw Untidy out start b = writing Flawed out
-putFlaw OutOfRange out start b = writing Flawed out
+putFlaw XOrY out start b = writing (Flawed XOrY) out
+putFlaw Untidy out start b = writing (Flawed Untidy) out
+putFlaw OutOfRange out start b = writing (Flawed OutOfRange) out
 
 -- what writing a description does
 unfoldable pub putIf : (w : ℕ) → Description → (out : List ℕ) (start : ℕ) → Writing Written

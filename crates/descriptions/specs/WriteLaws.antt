@@ -66,7 +66,7 @@ module _ (w : ℕ) (d : Description) where
 
 -- ---- The three ways that writing goes, by the flaw and the room
 
-flawed : (f : Flaw) (out : List ℕ) (start : ℕ) (b : List ℕ) → (f ≡ None → ⊥) → putFlaw f out start b ≡ writing Flawed out
+flawed : (f : Flaw) (out : List ℕ) (start : ℕ) (b : List ℕ) → (f ≡ None → ⊥) → putFlaw f out start b ≡ writing (Flawed f) out
 unfolding putFlaw
 flawed None out start b h = absurd (h refl)
 flawed XOrY out start b h = refl
@@ -83,7 +83,7 @@ module _ (w : ℕ) (d : Description) (out : List ℕ) (start : ℕ) where
   unfolding putIf putFlaw putRoom
   put-crowded e h = rw (e, lt-leb (start + length (encodeDescription w d)) (length out) h)
 
-  pub put-flawed : (flawOf w d ≡ None → ⊥) → putIf w d out start ≡ writing Flawed out
+  pub put-flawed : (flawOf w d ≡ None → ⊥) → putIf w d out start ≡ writing (Flawed (flawOf w d)) out
   unfolding putIf
   put-flawed h = flawed (flawOf w d) out start (encodeDescription w d) h
 

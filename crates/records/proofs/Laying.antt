@@ -269,50 +269,7 @@ laid-five s at a b c d e =
     let x : at + 3 + 1 ≡ at + 4 = omega arith in
     record { place = refl; bytes = rw (z, y, x) }
 
--- a description that is put aside, where there is room for any
-module _ (d : Description) (s t : List ℕ) (w : Written) (p : writing w t ≡ putIf 2 d s 0) (h : length s ≡ 178) where
-  abbrev bytes : List ℕ
-  bytes = encodeDescription 2 d
-
-  short : 0 + length bytes ≤ length s
-  short = omega (arith, h, description-size 2 d)
-
-  aside : (f : Flaw) → flawOf 2 d ≡ f → writing w t ≡ putFlaw f s 0 bytes
-  unfolding putIf
-  aside f e = rw e at p
-
-  done : flawOf 2 d ≡ flaw.None → writing w t ≡ writing (Done (0 + length bytes)) (puts s 0 bytes)
-  unfolding putFlaw putRoom
-  done e = aside flaw.None e ∙ ap (λ x. cond x (writing (Done (0 + length bytes)) (puts s 0 bytes)) (writing NoRoom s)) (le-leb (0 + length bytes) (length s) short)
-
-  -- how it ended says whether it has a flaw
-  ended : (f : Flaw) → flawOf 2 d ≡ f → ((f ≡ flaw.None) × (w ≡ Done (0 + length bytes))) ⊎ ((f ≡ flaw.None → ⊥) × (w ≡ Flawed))
-  unfolding putFlaw
-  ended flaw.None e = inl (refl, ap (λ x. x .answer) (done e))
-  ended flaw.XOrY e = inr ((λ q. impossible (cc)), ap (λ x. x .answer) (aside flaw.XOrY e))
-  ended flaw.Untidy e = inr ((λ q. impossible (cc)), ap (λ x. x .answer) (aside flaw.Untidy e))
-  ended flaw.OutOfRange e = inr ((λ q. impossible (cc)), ap (λ x. x .answer) (aside flaw.OutOfRange e))
-
-  finished : {n : ℕ} → w ≡ Done n → (flawOf 2 d ≡ flaw.None) × (n ≡ length bytes)
-  finished {n} q = ⊎-elim (λ e. (e .0, let z = e .1 in let y : n ≡ 0 + length bytes = cc in omega (arith, y))) (λ e. let z = e .1 in impossible (cc)) (ended (flawOf 2 d) refl)
-
-  pub aside-done : {n : ℕ} → w ≡ Done n → (flawOf 2 d ≡ flaw.None) × (n ≤ length t) × (take (n - 0) t ≡ bytes)
-  aside-done {n} q =
-      let f = finished q in
-      let e = ap (λ x. x .bytes) (done (f .0)) in
-      let z : n - 0 ≡ length bytes = omega (arith, f .1) in (
-        f .0,
-        omega (arith, f .1, short, ap length e, length-puts s 0 bytes),
-        ap (λ k. take k t) z ∙ ap (take (length bytes)) (e ∙ puts-is s 0 bytes short) ∙ take-at bytes (drop (0 + length bytes) s) (length bytes) refl,
-      )
-
-  pub aside-flawed : w ≡ Flawed → flawOf 2 d ≡ flaw.None → ⊥
-  aside-flawed q = ⊎-elim (λ e. let z = e .1 in impossible (cc)) (λ e. e .0) (ended (flawOf 2 d) refl)
-
-  pub aside-room : w ≡ NoRoom → ⊥
-  aside-room q = ⊎-elim (λ e. let z = e .1 in impossible (cc)) (λ e. let z = e .1 in impossible (cc)) (ended (flawOf 2 d) refl)
-
--- and a refusal of it
+-- the refusal of a description that was put aside
 refusal : (r : Record) (w : Answer) (out : List ℕ) (f : Flaw) → (f ≡ flaw.None → ⊥) → writing (byFlaw f answers.Room) out ≡ putWhere r out (byFlaw f w)
 unfolding byFlaw putWhere
 refusal r w out flaw.None h = absurd (h refl)

@@ -58,7 +58,7 @@ checkValues d count values wanted extended =
     (written.Record (length (encode (recordOf d count values wanted extended)))))))
 
 -- the description's own stages come first
-unfoldable pub byFlaw : Flaw → Written → Written
+abbrev pub byFlaw : Flaw → Written → Written
 byFlaw flaw.None w = w
 byFlaw flaw.XOrY w = written.XOrY
 byFlaw flaw.Untidy w = written.Untidy

@@ -1011,11 +1011,11 @@ fn write_described(
     }
 }
 
-// The refusal of a description that has a flaw.
-fn flawed(d: Description) -> Written
-    ensures { λ r. ⌜ r ≡ byFlaw (flawOf 2 d) answers.Room ⌝ }
+// The refusal of a description that has this flaw.
+fn flawed(flaw: Flaw) -> Written
+    ensures { λ r. ⌜ r ≡ byFlaw flaw answers.Room ⌝ }
 {
-    match descriptions::flaw_of(d, Format::Full) {
+    match flaw {
         Flaw::None => Written::Room, // not asked of one without a flaw
         Flaw::XOrY => Written::XOrY,
         Flaw::Untidy => Written::Untidy,
@@ -1042,7 +1042,7 @@ pub fn write(
             let described = &room[0..end];
             write_described(description, described, count, values, wanted, extended, out)
         }
-        descriptions::Written::Flawed => flawed(description),
+        descriptions::Written::Flawed(flaw) => flawed(flaw),
         descriptions::Written::NoRoom => Written::Room, // never: no description is longer
     }
 }

@@ -421,7 +421,7 @@ fn put_described(out: &mut [u8], at: usize, described: bool, description: Descri
     match descriptions::put(out, start, description, Format::Compact) {
         descriptions::Written::Done(end) => end,
         // Neither comes about: there is no flaw, and there is room.
-        descriptions::Written::Flawed => start,
+        descriptions::Written::Flawed(_) => start,
         descriptions::Written::NoRoom => start,
     }
 }
