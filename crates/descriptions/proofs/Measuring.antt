@@ -1,31 +1,30 @@
--- What is measured of a description: where its parts end and what is stored, whatever its numbers are.
+-- Where a descriptor ends and whether it is stored, whatever its numbers are: by its byte alone.
 use mathlib.Core.Path.{_≡_, refl, sym, ap, ap₂, _∙_}
 use mathlib.Core.Bool.{Bool, true, false, not, cond}
 use mathlib.Core.Logic.{by-cases}
-use mathlib.Core.List.{List, [], _∷_}
-use mathlib.Core.List as list
+use mathlib.Core.List.{List}
 use Prim.Native.Nat.{ℕ, _+_, _*_, _/_, _%_, _≤_, _<_}
 use native.Mathlib.Nat.{add-assoc, mod-lt}
 use native.Mathlib.Decide.{decLt}
 use native.Mathlib.Omega.{arith}
 use lib.Dec.{eqb}
 use lib.ListN.{length, getD}
+use Rattle.formats.specs.Bytes.{impossible}
 use borrow.Author.Tests.{eqb-true, eqb-false}
 use Rattle.formats.specs.Binary.{bit}
-use Rattle.formats.specs.Reader.{Reader, Answer, done, ok, short, bad, mapped, andThen, readAt, bind, map, each, one, any, _>>=_}
-use Rattle.formats.specs.Compose.{at-done, at-map, at-each, at-pass, at-bind-ok, at-bind-short}
-use Rattle.formats.specs.Gathered.{mapped-mapped}
+use Rattle.formats.specs.Reader.{Reader, done, ok, short, mapped, readAt, bind, one}
+use Rattle.formats.specs.Compose.{at-done, at-pass, at-bind-ok, at-bind-short}
 use Rattle.formats.specs.Number.{number, at-number, at-number-short}
-use Rattle.formats.specs.Told.{told, told-done, told-short}
+use Rattle.formats.specs.Told.{told, told-mapped, told-done, told-short}
 use Rattle.formats.specs.Jump.{Jumps, ends, ends-there, ends-short, jumps-done, jumps-bind}
-use Rattle.channels.specs.Channel.{channels, signedOf}
+use Rattle.channels.specs.Channel.{signedOf}
 use Rattle.channels.specs.Stored.{valueOf}
 use Rattle.channels.specs.declared.Attribute.{Attribute}
 use Rattle.channels.specs.declared.Descriptor.{Descriptor}
-use Rattle.descriptions.specs.Description.{announced, reserved, attribute, descriptor, channelOf, isStored}
-use Rattle.descriptions.specs.Read.{measured, unmeasured, channelsFrom, attributesSize, descriptorSize}
-use Rattle.formats.specs.declared.Outcome.the-variants.{Done, Short, Bad}
-use Rattle.descriptions.specs.declared.Measured.{Measured}
+use Rattle.formats.specs.declared.Outcome.the-variants.{Done}
+use Rattle.descriptions.specs.Description.{announced, reserved, attribute, descriptor, isStored}
+use Rattle.descriptions.specs.Read.{attributesSize, descriptorSize}
+use Rattle.descriptions.proofs.Parts.{descriptor-out, descriptor-refused}
 
 -- ---- Free bytes, and an image that does not depend on them
 
@@ -75,16 +74,20 @@ unfolding attribute
 attribute-jumps w signed true = let e : w + 0 ≡ w = omega arith in rw e at (jumps-bind {B = Attribute} (number w) (λ n. done (record { given = true; number = valueOf w signed n })) w 0 (number-jumps w) (λ n. jumps-done _))
 attribute-jumps w signed false = jumps-done _
 
+-- what is measured of a descriptor: whether the channel is included, and whether it is stored
+abbrev pub flags : Descriptor → Bool × Bool
+flags d = (d .included, isStored d)
+
 -- what its byte announces
 module _ (w channel b : ℕ) where
-  announced-passes : Passes isStored (announced w channel b) (attributesSize w b) (not (bit 3 b))
+  announced-passes : Passes flags (announced w channel b) (attributesSize w b) (true, not (bit 3 b))
   unfolding attributesSize
   announced-passes =
-      passes-bind isStored _ _ _ _ _ (attribute-jumps 2 false (bit 8 b)) (λ scaling.
-      passes-bind isStored _ _ _ _ _ (attribute-jumps w (signedOf channel) (bit 7 b)) (λ minimum.
-      passes-bind isStored _ _ _ _ _ (attribute-jumps w (signedOf channel) (bit 6 b)) (λ maximum.
-      passes-bind isStored _ _ _ _ _ (attribute-jumps w (signedOf channel) (bit 5 b)) (λ mean.
-      passes-bind isStored _ _ _ _ _ (attribute-jumps w false (bit 4 b)) (λ deviation. passes-done isStored _)))))
+      passes-bind flags _ _ _ _ _ (attribute-jumps 2 false (bit 8 b)) (λ scaling.
+      passes-bind flags _ _ _ _ _ (attribute-jumps w (signedOf channel) (bit 7 b)) (λ minimum.
+      passes-bind flags _ _ _ _ _ (attribute-jumps w (signedOf channel) (bit 6 b)) (λ maximum.
+      passes-bind flags _ _ _ _ _ (attribute-jumps w (signedOf channel) (bit 5 b)) (λ mean.
+      passes-bind flags _ _ _ _ _ (attribute-jumps w false (bit 4 b)) (λ deviation. passes-done flags _)))))
 
 module _ (w channel : ℕ) (s : List ℕ) (at : ℕ) (h : at < length s) (q : reserved .holds (getD s at 0) ≡ true) where
   past-byte : readAt (descriptor w channel) s at ≡ readAt (announced w channel (getD s at 0)) s (at + 1)
@@ -92,14 +95,53 @@ module _ (w channel : ℕ) (s : List ℕ) (at : ℕ) (h : at < length s) (q : re
   past-byte = at-pass reserved _ s at h q
 
   pub descriptor-over : at + descriptorSize w (getD s at 0) ≤ length s
-      → mapped isStored (readAt (descriptor w channel) s at) ≡ ok (not (bit 3 (getD s at 0))) (at + descriptorSize w (getD s at 0))
+      → mapped flags (readAt (descriptor w channel) s at) ≡ ok (true, not (bit 3 (getD s at 0))) (at + descriptorSize w (getD s at 0))
   unfolding descriptorSize
   descriptor-over e =
-      ap (mapped isStored) past-byte ∙ announced-passes w channel (getD s at 0) .there s (at + 1) (omega arith) ∙ ap (ok (not (bit 3 (getD s at 0)))) (add-assoc at 1 (attributesSize w (getD s at 0)))
+      ap (mapped flags) past-byte ∙ announced-passes w channel (getD s at 0) .there s (at + 1) (omega arith) ∙ ap (ok (true, not (bit 3 (getD s at 0)))) (add-assoc at 1 (attributesSize w (getD s at 0)))
 
-  pub descriptor-cut : length s < at + descriptorSize w (getD s at 0) → mapped isStored (readAt (descriptor w channel) s at) ≡ short
+  pub descriptor-cut : length s < at + descriptorSize w (getD s at 0) → mapped flags (readAt (descriptor w channel) s at) ≡ short
   unfolding descriptorSize
-  descriptor-cut e = ap (mapped isStored) past-byte ∙ announced-passes w channel (getD s at 0) .cut s (at + 1) (omega arith) (omega arith)
+  descriptor-cut e = ap (mapped flags) past-byte ∙ announced-passes w channel (getD s at 0) .cut s (at + 1) (omega arith) (omega arith)
+
+-- a descriptor whose end is told is there: its byte is admitted, and so are all the bytes that it announces
+module _ (w channel : ℕ) (s : List ℕ) (at : ℕ) where
+  pub record Whole (n : ℕ) : Type 0 where
+    pub admitted : reserved .holds (getD s at 0) ≡ true
+    pub there : at + descriptorSize w (getD s at 0) ≤ length s
+    pub end : n ≡ at + descriptorSize w (getD s at 0)
+
+  byte-there : {n : ℕ} → Done n ≡ told (readAt (descriptor w channel) s at) → at < length s
+  unfolding told
+  byte-there e = by-cases (decLt at (length s)) (λ h. h) (λ h. let z = e ∙ ap told (descriptor-out w channel s at (omega arith)) in impossible (cc))
+
+  byte-admitted : {n : ℕ} → Done n ≡ told (readAt (descriptor w channel) s at) → (t : Bool) → reserved .holds (getD s at 0) ≡ t → reserved .holds (getD s at 0) ≡ true
+  unfolding told
+  byte-admitted e true q = q
+  byte-admitted e false q = let z = e ∙ ap told (descriptor-refused w channel s at (byte-there e) q) in impossible (cc)
+
+  pub descriptor-whole : {n : ℕ} → Done n ≡ told (readAt (descriptor w channel) s at) → Whole n
+  unfolding told
+  descriptor-whole {n} e =
+      let h = byte-there e in
+      let q = byte-admitted e (reserved .holds (getD s at 0)) refl in
+      let f : Done n ≡ told (mapped flags (readAt (descriptor w channel) s at)) = e ∙ sym (told-mapped flags (readAt (descriptor w channel) s at)) in
+      by-cases
+      (decLt (length s) (at + descriptorSize w (getD s at 0)))
+      (λ g. let z = f ∙ ap told (descriptor-cut w channel s at h q g) in impossible (cc))
+      (λ g.
+      let i : at + descriptorSize w (getD s at 0) ≤ length s = omega arith in
+      let z = f ∙ ap told (descriptor-over w channel s at h q i) in
+      record { admitted = q; there = i; end = cc })
+
+  -- a descriptor that was read is of an included channel, and is stored as its byte has it
+  pub descriptor-flags : {d : Descriptor} {n : ℕ} → readAt (descriptor w channel) s at ≡ ok d n → (d .included ≡ true) × (isStored d ≡ not (bit 3 (getD s at 0)))
+  unfolding told mapped
+  descriptor-flags {d} {n} e =
+      let x = descriptor-whole (sym (ap told e)) in
+      let z = sym (ap (mapped flags) e) ∙ descriptor-over w channel s at (byte-there (sym (ap told e))) (x .admitted) (x .there) in
+      let y : flags d ≡ (true, not (bit 3 (getD s at 0))) = cc in
+      (ap (λ p. p .0) y, ap (λ p. p .1) y)
 
 -- ---- Its size, counted from the bits
 
@@ -135,54 +177,3 @@ module _ (b : ℕ) where
   size-compact =
       rw (flag-bytes (b / 128) 2, flag-bytes (b / 64) 1, flag-bytes (b / 32) 1, flag-bytes (b / 16) 1, flag-bytes (b / 8) 1)
       (sum-compact _ _ _ _ _ (bit-below (b / 128)) (bit-below (b / 64)) (bit-below (b / 32)) (bit-below (b / 16)) (bit-below (b / 8)))
-
--- ---- The channels
-
--- images part by part are the image of the whole
-module _ {I A B : Type 0} (g : A → B) (f : I → Reader A) (s : List ℕ) where
-  abbrev images : List I → Reader (List B)
-  images l = each l (λ i. map g (f i))
-
-  image-step : (l : List I) → ((n : ℕ) → readAt (images l) s n ≡ mapped (list.map g) (readAt (each l f) s n)) → (x : Answer A)
-      → andThen (mapped g x) (λ v n. mapped (λ vs. v ∷ vs) (readAt (images l) s n))
-      ≡ mapped (list.map g) (andThen x (λ v n. mapped (λ vs. v ∷ vs) (readAt (each l f) s n)))
-  unfolding andThen mapped
-  image-step l e (ok v n) =
-      ap (mapped (λ vs. g v ∷ vs)) (e n)
-      ∙ mapped-mapped (λ vs. g v ∷ vs) (list.map g) (readAt (each l f) s n)
-      ∙ sym (mapped-mapped (list.map g) (λ vs. v ∷ vs) (readAt (each l f) s n))
-  image-step l e short = refl
-  image-step l e (bad k p) = refl
-
-  each-image : (l : List I) (at : ℕ) → readAt (images l) s at ≡ mapped (list.map g) (readAt (each l f) s at)
-  unfolding each mapped
-  each-image [] at = at-done [] s at ∙ sym (ap (mapped (list.map g)) (at-done [] s at))
-  each-image (i ∷ l) at =
-      at-each s at i l (λ j. map g (f j))
-      ∙ ap (λ x. andThen x (λ v n. mapped (λ vs. v ∷ vs) (readAt (images l) s n))) (at-map g (f i) s at)
-      ∙ image-step l (each-image l) (readAt (f i) s at)
-      ∙ sym (ap (mapped (list.map g)) (at-each s at i l f))
-
--- what is measured of the channels, by what is stored of each
-unfoldable pub measuredBy : Answer (List Bool) → Measured
-measuredBy (ok stored n) = record { outcome = Done n; stored = stored }
-measuredBy short = unmeasured Short
-measuredBy (bad k p) = unmeasured (Bad k p)
-
-by-channels : (x : Answer (List Descriptor)) → measured (mapped (λ ds. record { channels = ds }) x) ≡ measuredBy (mapped (list.map isStored) x)
-unfolding measured measuredBy mapped
-by-channels (ok ds n) = refl
-by-channels short = refl
-by-channels (bad k p) = refl
-
-abbrev pub storedOf : (w inclusion channel : ℕ) → Reader Bool
-storedOf w inclusion channel = map isStored (channelOf w inclusion channel)
-
-module _ (w inclusion : ℕ) (s : List ℕ) (start : ℕ) where
-  pub channels-measured : {x : Answer (List Bool)} → readAt (each channels (storedOf w inclusion)) s start ≡ x
-      → measured (readAt (channelsFrom w inclusion) s start) ≡ measuredBy x
-  unfolding channelsFrom
-  channels-measured e =
-      ap measured (at-map (λ ds. record { channels = ds }) (each channels (channelOf w inclusion)) s start)
-      ∙ by-channels (readAt (each channels (channelOf w inclusion)) s start)
-      ∙ ap measuredBy (sym (each-image isStored (channelOf w inclusion) s channels start) ∙ e)

@@ -1,25 +1,21 @@
 -- What the code that reads a description answers.
+use mathlib.Core.Path.{_≡_}
 use mathlib.Core.Bool.{Bool, false, cond}
-use mathlib.Core.List.{List}
 use mathlib.Core.List as list
 use Prim.Native.Nat.{ℕ, _+_}
+use lib.IntN.{ℤ}
 use lib.ListN.{replicate}
-use Rattle.formats.specs.Reader.{Reader, Answer, ok, short, bad, readAt, map, each}
+use Rattle.formats.specs.Reader.{Reader, Answer, ok, short, bad, map, each}
 use Rattle.formats.specs.Binary.{bit}
 use Rattle.formats.specs.declared.Outcome.{Outcome}
 use Rattle.formats.specs.declared.Outcome.the-variants.{Done, Short, Bad}
 use Rattle.channels.specs.Channel.{channels}
-use Rattle.channels.specs.declared.Descriptor.{Descriptor}
+use Rattle.channels.specs.Stored.{valueOf}
 use Rattle.channels.specs.declared.Description.{Description}
 use Rattle.descriptions.specs.Description.{absent, channelOf, isStored}
+use Rattle.descriptions.specs.declared.Opening.{Opening}
 use Rattle.descriptions.specs.declared.Described.{Described}
 use Rattle.descriptions.specs.declared.Measured.{Measured}
-use Rattle.descriptions.specs.declared.Cursor.{Cursor}
-use Rattle.descriptions.specs.declared.Cursor.the-variants as cursor
-use Rattle.descriptions.specs.declared.One.{One}
-use Rattle.descriptions.specs.declared.One.the-variants as one
-use Rattle.descriptions.specs.declared.Passed.{Passed}
-use Rattle.descriptions.specs.declared.Passed.the-variants as passed
 
 -- sixteen channels, none of them included
 unfoldable pub nothing : Description
@@ -27,49 +23,41 @@ nothing = record { channels = replicate 16 absent }
 
 -- how it ended, where there is no description
 abbrev pub ended : Outcome → Described
-ended o = record { outcome = o; description = nothing }
+ended o = record { outcome = o; stored = replicate 16 false; description = nothing }
 
--- how it ended, and the description where there is one
+-- how it ended, of each channel whether a sample point holds a number of it, and the description where there is one
 unfoldable pub described : Answer Description → Described
-described (ok d n) = record { outcome = Done n; description = d }
+described (ok d n) = record { outcome = Done n; stored = list.map isStored (d .channels); description = d }
 described short = ended Short
 described (bad k p) = ended (Bad k p)
 
--- how it ended, and of each channel whether a sample point holds a number of it
+-- how it ended, and of each channel whether it is included and whether a sample point holds a number of it
 abbrev pub unmeasured : Outcome → Measured
-unmeasured o = record { outcome = o; stored = replicate 16 false }
+unmeasured o = record { outcome = o; included = replicate 16 false; stored = replicate 16 false }
 
 unfoldable pub measured : Answer Description → Measured
-measured (ok d n) = record { outcome = Done n; stored = list.map isStored (d .channels) }
+measured (ok d n) = record { outcome = Done n; included = list.map (λ c. c .included) (d .channels); stored = list.map isStored (d .channels) }
 measured short = unmeasured Short
 measured (bad k p) = unmeasured (Bad k p)
 
 -- ---- What its parts answer
 
--- the answer of a reader that a descriptor's stands for
-unfoldable pub ofOne : One → Answer Descriptor
-ofOne (one.Made d n) = ok d n
-ofOne one.Short = short
-ofOne (one.Refused k p) = bad k p
+abbrev pub unopened : Outcome → Opening
+unopened o = record { outcome = o; inclusion = 0 }
 
--- what is read from where a cursor stands, and a value that was read up to there: both are short once the bytes have run out
-unfoldable pub readFrom : {A : Type 0} → Reader A → List ℕ → Cursor → Answer A
-readFrom r s (cursor.At n) = readAt r s n
-readFrom r s cursor.Short = short
-
-unfoldable pub readTo : {A : Type 0} → A → Cursor → Answer A
-readTo v (cursor.At n) = ok v n
-readTo v cursor.Short = short
+-- what is read behind a part, by how that ended
+unfoldable pub behind : {A : Type 0} → (ℕ → Answer A) → Outcome → Answer A
+behind next (Done n) = next n
+behind next Short = short
+behind next (Bad k p) = bad k p
 
 -- the descriptors, behind the inclusion bytes
 unfoldable pub channelsFrom : (w inclusion : ℕ) → Reader Description
 channelsFrom w inclusion = map (λ ds. record { channels = ds }) (each channels (channelOf w inclusion))
 
--- the answer of a reader that tells of a channel whether it is stored
-unfoldable pub ofPassed : Passed → Answer Bool
-ofPassed (passed.Over b n) = ok b n
-ofPassed passed.Short = short
-ofPassed (passed.Refused k p) = bad k p
+-- the number that is stored as 0, with a sign or without
+abbrev pub Least : (w : ℕ) → ℤ → Type 0
+Least w least = (signed : Bool) × (least ≡ valueOf w signed 0)
 
 -- how many bytes the attributes have that a descriptor's first byte announces, and the descriptor with it
 unfoldable pub attributesSize : (w b : ℕ) → ℕ

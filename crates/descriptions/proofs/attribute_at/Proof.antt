@@ -1,29 +1,105 @@
 -- `descriptions::attribute_at` meets its contract: a number and what it stands for, or nothing.
-use mathlib.Core.Path.{sym, _∙_}
+use mathlib.Core.Path.{_≡_, sym, ap, _∙_}
+use mathlib.Core.Bool.{Bool, true, cond}
+use Prim.Native.Nat.{ℕ, _+_}
+use native.Mathlib.Omega.{arith}
 use borrow.Author.Needs.{needs}
+use borrow.Author.Tests.{not-true, not-false}
+use lib.IntN.{pos, _+ℤ_}
 use mir.Syntax.{w32}
-use mir.ValLaws.{toZ-ofZ}
-use Rattle.formats.specs.Number.{number}
+use mir.Val.{SFits, toZ, ofZ}
+use mir.ValLaws.{toZ-pos, toZ-ofZ}
+use Rattle.channels.proofs.Numbers.{value-fits}
+use Rattle.channels.specs.Channel.{widthOf}
+use Rattle.channels.specs.Stored.{valueOf}
+use Rattle.formats.specs.Reader.{ok, readAt}
 use Rattle.descriptions.specs.Description.{attribute}
-use Rattle.descriptions.proofs.Parts.{from-bind, from-done}
+use Rattle.descriptions.proofs.Parts.{above-least, attribute-given, attribute-none}
 use Rattle.descriptions.proofs.attribute_at.Statement.{statement}
 use Rattle.descriptions.proofs.attribute_at.Tie as tie
 
-number-at-requires : tie.Need-number-at-requires
-number-at-requires c κs = search needs
-
-value-of-requires : tie.Need-value-of-requires
-value-of-requires c κs = search needs
-
 returns : tie.Need-returns
-unfolding attribute
 returns c =
-    rw (toZ-ofZ w32 (c .value-of .result) (search needs), c .value-of .ensures, c .before .before .if1 .taken)
-    (sym (from-bind (number _) _ _ _ _ _ (c .before .number-at .ensures) ∙ from-done _ _ _))
+    let a = c .before .before .args in
+    let e = not-true (a .flag) (c .if1 .taken) in
+    let z : cond (a .flag) (widthOf (a .format)) 0 ≡ 0 = ap (λ x. cond x (widthOf (a .format)) 0) e in
+    (λ signed q. attribute-none _ signed _ _ _ e, omega (arith, z))
+
+-- a flag that is set, and the number behind it
+given : (c : tie.Else1) → c .before .before .args .flag ≡ true
+given c = not-false _ (c .if1 .left)
+
+number-at-requires : tie.Need-number-at-requires
+number-at-requires c κs = rw (given c) at (c .before .before .pre .1)
+
+-- as the machine has it, and as it is meant
+module _ (m : tie.After-number-at) where
+  abbrev start : tie.Start
+  start = m .before .before .before
+
+  sum : toZ w32 (ofZ w32 (start .args .least)) +ℤ toZ w32 (m .number-at .result) ≡ start .args .least +ℤ pos (m .number-at .result)
+  sum = rw (toZ-ofZ w32 (start .args .least) (start .fits .least), toZ-pos w32 (m .number-at .result) (omega arith))
+
+  fits : SFits w32 (start .args .least +ℤ pos (m .number-at .result))
+  unfolding valueOf
+  fits =
+      let l = start .pre .0 in
+      rw (l .1, above-least (start .args .format) (l .0) (m .number-at .result)) (value-fits (start .args .format) (l .0) (m .number-at .result) (omega arith))
+
+  meant : (signed : Bool) → start .args .least ≡ valueOf (widthOf (start .args .format)) signed 0
+      → toZ w32 (ofZ w32 (toZ w32 (ofZ w32 (start .args .least)) +ℤ toZ w32 (m .number-at .result))) ≡ valueOf (widthOf (start .args .format)) signed (m .number-at .result)
+  meant signed e =
+      rw sum (toZ-ofZ w32 _ fits) ∙ ap (λ z. z +ℤ pos (m .number-at .result)) e ∙ above-least (start .args .format) signed (m .number-at .result)
+
+cast-number : tie.Need-cast-number
+cast-number c = search needs
+
+add-number : tie.Need-add-number
+add-number c = rw (sum c) (fits c)
+
+enum-told : tie.Need-enum-told
+enum-told c = search needs
+
+add-next : tie.Need-add-next
+add-next c = search needs
+
+enum-told-2 : tie.Need-enum-told-2
+enum-told-2 c = search needs
+
+add-next-2 : tie.Need-add-next-2
+add-next-2 c = search needs
 
 returns-2 : tie.Need-returns-2
-unfolding attribute
-returns-2 c = rw (c .if1 .left) (sym (from-done _ _ _))
+unfolding widthOf
+returns-2 c =
+    let m = c .before .before in
+    let a = start m .args in
+    let z : a .at + widthOf (a .format) ≡ a .at + 2 = ap (λ f. a .at + widthOf f) (c .enum-told .given .1) in (
+      λ signed e. attribute-given _ signed _ _ _ (given (m .before)) (meant m signed e) (m .number-at .ensures) z,
+      sym (ap (λ x. a .at + cond x (widthOf (a .format)) 0) (given (m .before)) ∙ z),
+    )
+
+returns-3 : tie.Need-returns-3
+unfolding widthOf
+returns-3 c =
+    let m = c .before .before in
+    let a = start m .args in
+    let z : a .at + widthOf (a .format) ≡ a .at + 1 = ap (λ f. a .at + widthOf f) (c .enum-told2 .given .1) in (
+      λ signed e. attribute-given _ signed _ _ _ (given (m .before)) (meant m signed e) (m .number-at .ensures) z,
+      sym (ap (λ x. a .at + cond x (widthOf (a .format)) 0) (given (m .before)) ∙ z),
+    )
 
 pub attribute-at-spec : {M : Type 1} → statement M
-attribute-at-spec = tie.close (tie.spec number-at-requires value-of-requires returns returns-2)
+attribute-at-spec =
+    tie.close
+    (tie.spec
+    returns
+    number-at-requires
+    cast-number
+    add-number
+    enum-told
+    add-next
+    enum-told-2
+    add-next-2
+    returns-2
+    returns-3)

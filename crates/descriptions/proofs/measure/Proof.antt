@@ -1,80 +1,165 @@
--- `descriptions::measure` meets its contract: the first byte is judged before the second is looked for, and the channels follow.
-use mathlib.Core.Path.{sym, ap, _∙_}
+-- `descriptions::measure` meets its contract. The invariant: some descriptors were read of the channels so far, and the flags are theirs.
+-- The measure is the number of channels left.
+use mathlib.Core.Path.{_≡_, refl, sym, ap, _∙_}
+use mathlib.Core.Bool.{true}
+use mathlib.Core.List.{List}
+use mathlib.Core.List as list
+use Prim.Native.Nat.{_≤_, _-_}
 use native.Mathlib.Omega.{arith}
 use borrow.Author.Needs.{needs}
-use Rattle.descriptions.specs.Read.{measured}
-use Rattle.descriptions.proofs.Parts.{description-out, description-bad, description-cut, description-channels}
+use borrow.Author.Tests.{not-true, not-false}
+use lib.ListN.{replicate, set}
+use Rattle.formats.specs.Reader.{readAt}
+use Rattle.formats.specs.Told.{told, told-done}
+use Rattle.channels.specs.Channel.{widthOf}
+use Rattle.channels.specs.declared.Descriptor.{Descriptor}
+use Rattle.descriptions.specs.Description.{absent, includes, isStored, description}
+use Rattle.descriptions.specs.Read.{measured, channelsFrom, descriptorSize}
+use Rattle.descriptions.proofs.Measuring.{descriptor-whole, descriptor-flags}
+use Rattle.descriptions.proofs.Reading.{Gone, gone-none, gone-absent, gone-on, gone-no-further, gone-all, not-done, behind-done, behind-ended, measured-ended, map-set}
 use Rattle.descriptions.proofs.measure.Statement.{statement}
 use Rattle.descriptions.proofs.measure.Tie as tie
 
-unmeasured-requires : tie.Need-unmeasured-requires
+abbrev Inv-loop : tie.InvT-loop
+Inv-loop s start format first inclusion included₀ stored₀ at₀ channel₀ included stored at channel =
+    (channel ≤ 16) × (ds : List Descriptor) × Gone (widthOf format) inclusion s first ds channel at × (included ≡ list.map (λ c. c .included) ds) × (stored ≡ list.map isStored ds)
+
+abbrev μ-loop : tie.MeasureT-loop
+μ-loop s start format first inclusion included₀ stored₀ at₀ channel₀ included stored at channel = 16 - channel
+
+-- what the whole answers, behind the inclusion bytes
+module _ (k : tie.After-outcome Inv-loop μ-loop) where
+  abbrev opened : tie.After-opening-at Inv-loop μ-loop
+  opened = k .before .before
+
+  abbrev start : tie.Start Inv-loop μ-loop
+  start = opened .before .before
+
+  whole : readAt (description (widthOf (start .args .format))) (start .args .s .now) (start .args .start)
+      ≡ readAt (channelsFrom (widthOf (start .args .format)) (opened .opening-at .result .inclusion)) (start .args .s .now) (k .outcome .given .0 .0)
+  whole = behind-done _ (k .outcome .given .1) (opened .opening-at .ensures _)
+
+-- a channel that is included
+included : (d : tie.After-descriptor-end Inv-loop μ-loop) → let i = d .before .before in
+    includes (opened (i .before .before .before .before) .opening-at .result .inclusion) (i .before .before .loop .channel) ≡ true
+included d = sym (d .before .before .includes .ensures) ∙ not-false _ (d .before .if1 .left)
+
+opening-at-requires : tie.Need-opening-at-requires Inv-loop μ-loop
+opening-at-requires c κs = search needs
+
+enum-known-outcome : tie.Need-enum-known-outcome Inv-loop μ-loop
+enum-known-outcome c = search needs
+
+unmeasured-requires : tie.Need-unmeasured-requires Inv-loop μ-loop
 unmeasured-requires c κs = search needs
 
-returns : tie.Need-returns
-unfolding measured
-returns c = c .unmeasured .ensures ∙ sym (ap measured (description-out _ _ _ (omega arith)))
+returns : tie.Need-returns Inv-loop μ-loop
+returns c =
+    let m = c .before in
+    let o = m .before .opening-at in
+    let q = not-done (o .result .outcome) (m .match .keys2) in
+    c .unmeasured .ensures ∙ measured-ended _ _ q (behind-ended _ _ q (o .ensures _))
 
-shared-slice-read-first : tie.Need-shared-slice-read-first
-shared-slice-read-first c = search needs
+loop-holds : tie.Need-loop-holds Inv-loop μ-loop
+loop-holds c = (omega arith, replicate 16 absent, gone-none _ _ _ _, refl, refl)
 
-unmeasured-requires-2 : tie.Need-unmeasured-requires-2
+includes-requires : tie.Need-includes-requires Inv-loop μ-loop
+includes-requires c κs = search needs
+
+add-channel : tie.Need-add-channel Inv-loop μ-loop
+add-channel c = search needs
+
+loop-less : tie.Need-loop-less Inv-loop μ-loop
+loop-less c = search needs
+
+loop-again : tie.Need-loop-again Inv-loop μ-loop
+loop-again c =
+    let t = c .before .before in
+    let l = t .before .loop in
+    (omega arith, l .inv .1, gone-absent _ _ _ _ _ _ _ (l .inv .2) (t .loop-test .taken) (sym (c .before .includes .ensures) ∙ not-true _ (c .if1 .taken)), l .inv .3, l .inv .4)
+
+descriptor-end-requires : tie.Need-descriptor-end-requires Inv-loop μ-loop
+descriptor-end-requires c κs = search needs
+
+enum-known-end : tie.Need-enum-known-end Inv-loop μ-loop
+enum-known-end c = search needs
+
+unmeasured-requires-2 : tie.Need-unmeasured-requires-2 Inv-loop μ-loop
 unmeasured-requires-2 c κs = search needs
 
-returns-2 : tie.Need-returns-2
-unfolding measured
-returns-2 c = c .unmeasured2 .ensures ∙ sym (ap measured (description-bad _ _ _ (omega arith) (omega arith)))
+returns-2 : tie.Need-returns-2 Inv-loop μ-loop
+returns-2 c =
+    let m = c .before in
+    let d = m .before in
+    let t = d .before .before .before in
+    let l = t .before in
+    let q = not-done (d .descriptor-end .result) (m .match2 .keys2) in
+    let e = gone-no-further _ _ _ _ _ _ _ (l .loop .inv .2) (t .loop-test .taken) (included d) _ q (d .descriptor-end .ensures _) in
+    c .unmeasured2 .ensures ∙ measured-ended _ _ q (e ∙ ap told (sym (whole (l .before .before))))
 
-sub-if3 : tie.Need-sub-if3
-sub-if3 c = search needs
+shared-slice-read-byte : tie.Need-shared-slice-read-byte Inv-loop μ-loop
+unfolding descriptorSize
+shared-slice-read-byte c =
+    let e = c .before .before in
+    let d = e .before .before in
+    omega (arith, descriptor-whole _ 0 _ _ (sym (e .end .given .1) ∙ d .descriptor-end .ensures 0) .there)
 
-unmeasured-requires-3 : tie.Need-unmeasured-requires-3
-unmeasured-requires-3 c κs = search needs
+array-write-included : tie.Need-array-write-included Inv-loop μ-loop
+array-write-included c = search needs
 
-returns-3 : tie.Need-returns-3
+array-write-stored : tie.Need-array-write-stored Inv-loop μ-loop
+array-write-stored c = search needs
+
+add-channel-2 : tie.Need-add-channel-2 Inv-loop μ-loop
+add-channel-2 c = search needs
+
+loop-less-2 : tie.Need-loop-less-2 Inv-loop μ-loop
+loop-less-2 c = search needs
+
+loop-again-2 : tie.Need-loop-again-2 Inv-loop μ-loop
+loop-again-2 c =
+    let e = c .before .before in
+    let d = e .before .before in
+    let t = d .before .before .before in
+    let l = t .before .loop in
+    let x = told-done _ (sym (e .end .given .1) ∙ d .descriptor-end .ensures (l .channel)) in
+    let f = descriptor-flags _ (l .channel) _ _ (x .1) in (
+      omega arith,
+      set (l .inv .1) (l .channel) (x .0),
+      gone-on _ _ _ _ _ _ _ (l .inv .2) (t .loop-test .taken) (included d) (x .1),
+      rw (l .inv .3, ← f .0) (map-set (λ c'. c' .included) (l .inv .1) (l .channel) (x .0)),
+      rw (l .inv .4, ← f .1) (map-set isStored (l .inv .1) (l .channel) (x .0)),
+    )
+
+returns-3 : tie.Need-returns-3 Inv-loop μ-loop
 unfolding measured
 returns-3 c =
-    let e = c .before .before in
-    let a = e .before .before .before .before .args in
-    c .unmeasured3 .ensures ∙ sym (ap measured (description-cut _ _ _ (omega arith) (omega arith) (e .before .shared-slice-known2 .given (a .start) .fits) (omega arith)))
-
-add-channels-end : tie.Need-add-channels-end
-add-channels-end c = search needs
-
-add-pair : tie.Need-add-pair
-add-pair c = search needs
-
-shared-slice-read-pair : tie.Need-shared-slice-read-pair
-shared-slice-read-pair c = search needs
-
-pair-requires : tie.Need-pair-requires
-pair-requires c κs = search needs
-
-channels-end-requires : tie.Need-channels-end-requires
-channels-end-requires c κs = search needs
-
-returns-4 : tie.Need-returns-4
-returns-4 c =
-    let e = c .before .before .before .before in
-    let a = e .before .before .before .before .args in
-    c .channels-end .ensures
-    ∙ rw (c .before .pair .ensures)
-    (sym (ap measured (description-channels _ _ _ (omega arith) (omega arith) (e .before .shared-slice-known2 .given (a .start) .fits) (omega arith))))
+    let l = c .before in
+    rw (l .loop .inv .3, l .loop .inv .4, whole (l .before .before), gone-all _ _ _ _ _ _ _ (l .loop .inv .2) (c .loop-test .left))
 
 pub measure-spec : {M : Type 1} → statement M
 measure-spec =
     tie.close
     (tie.spec
+    Inv-loop
+    μ-loop
+    opening-at-requires
+    enum-known-outcome
     unmeasured-requires
     returns
-    shared-slice-read-first
+    loop-holds
+    includes-requires
+    add-channel
+    loop-less
+    loop-again
+    descriptor-end-requires
+    enum-known-end
     unmeasured-requires-2
     returns-2
-    sub-if3
-    unmeasured-requires-3
-    returns-3
-    add-channels-end
-    add-pair
-    shared-slice-read-pair
-    pair-requires
-    channels-end-requires
-    returns-4)
+    shared-slice-read-byte
+    array-write-included
+    array-write-stored
+    add-channel-2
+    loop-less-2
+    loop-again-2
+    returns-3)

@@ -1,84 +1,177 @@
--- `descriptions::read` meets its contract: the first byte is judged before the second is looked for, and the channels follow.
-use mathlib.Core.Path.{sym, ap, _∙_}
+-- `descriptions::read` meets its contract. The invariant: the array has the descriptors of the channels so far, and says nothing of those left.
+-- The measure is the number of channels left.
+use mathlib.Core.Path.{_≡_, refl, sym, ap, _∙_}
+use mathlib.Core.Bool.{true, false}
+use mathlib.Core.List as list
+use Prim.Native.Nat.{ℕ, _≤_, _-_}
 use native.Mathlib.Omega.{arith}
 use borrow.Author.Needs.{needs}
-use Rattle.descriptions.specs.Read.{described}
-use Rattle.descriptions.proofs.Parts.{description-out, description-bad, description-cut, description-channels}
+use borrow.Author.Tests.{not-true, not-false}
+use lib.ListN.{getD}
+use Rattle.formats.specs.Reader.{ok, readAt}
+use Rattle.formats.specs.Told.{told}
+use Rattle.formats.specs.declared.Outcome.the-variants.{Done}
+use Rattle.channels.specs.Channel.{widthOf, signedOf}
+use Rattle.descriptions.specs.Description.{includes, isStored, description}
+use Rattle.descriptions.specs.Read.{nothing, described, channelsFrom}
+use Rattle.descriptions.proofs.Measuring.{Whole, descriptor-whole}
+use Rattle.descriptions.proofs.Reading.{Gone, gone-none, gone-absent, gone-on, gone-no-further, gone-all, not-done, behind-done, behind-ended, described-ended, map-set}
 use Rattle.descriptions.proofs.read.Statement.{statement}
 use Rattle.descriptions.proofs.read.Tie as tie
 
-ended-requires : tie.Need-ended-requires
-ended-requires c κs = search needs
+abbrev Inv-loop : tie.InvT-loop
+Inv-loop s start format descriptors₀ stored₀ outcome₀ first signs inclusion at₀ channel₀ descriptors stored outcome at channel =
+    (channel ≤ 16) × (outcome ≡ Done at) × (Gone (widthOf format) inclusion s first descriptors channel at) × (stored ≡ list.map isStored descriptors)
 
-returns : tie.Need-returns
+abbrev μ-loop : tie.MeasureT-loop
+μ-loop s start format descriptors₀ stored₀ outcome₀ first signs inclusion at₀ channel₀ descriptors stored outcome at channel =
+    16 - channel
+
+-- what the whole answers, behind the inclusion bytes
+module _ (k : tie.After-outcome Inv-loop μ-loop) where
+  abbrev opened : tie.After-opening-at Inv-loop μ-loop
+  opened = k .before .before
+
+  abbrev start : tie.Start Inv-loop μ-loop
+  start = opened .before .before
+
+  whole : readAt (description (widthOf (start .args .format))) (start .args .s .now) (start .args .start)
+      ≡ readAt (channelsFrom (widthOf (start .args .format)) (opened .opening-at .result .inclusion)) (start .args .s .now) (k .outcome .given .0 .0)
+  whole = behind-done _ (k .outcome .given .1) (opened .opening-at .ensures _)
+
+-- a channel that is included
+included : (d : tie.After-descriptor-end Inv-loop μ-loop) → let i = d .before .before in
+    includes (opened (i .before .before .before .before .before) .opening-at .result .inclusion) (i .before .before .loop .channel) ≡ true
+included d = sym (d .before .before .includes .ensures) ∙ not-false _ (d .before .if1 .left)
+
+-- a descriptor that is there, and how its channel is signed
+there : (e : tie.After-outcome2 Inv-loop μ-loop) → let d = e .before .before in
+    let l = d .before .before .before .before in
+    let a = start (l .before .before .before) .args in
+    (channel : ℕ) → Whole (widthOf (a .format)) channel (a .s .now) (l .loop .at) (e .outcome2 .given .0 .0)
+there e channel = descriptor-whole _ channel _ _ (sym (e .outcome2 .given .1) ∙ e .before .before .descriptor-end .ensures channel)
+
+opening-at-requires : tie.Need-opening-at-requires Inv-loop μ-loop
+opening-at-requires c κs = search needs
+
+enum-known-outcome : tie.Need-enum-known-outcome Inv-loop μ-loop
+enum-known-outcome c = search needs
+
+signs-requires : tie.Need-signs-requires Inv-loop μ-loop
+signs-requires c κs = search needs
+
+loop-holds : tie.Need-loop-holds Inv-loop μ-loop
+loop-holds c = (omega arith, refl, gone-none _ _ _ _, refl)
+
+includes-requires : tie.Need-includes-requires Inv-loop μ-loop
+includes-requires c κs = search needs
+
+add-channel : tie.Need-add-channel Inv-loop μ-loop
+add-channel c = search needs
+
+loop-less : tie.Need-loop-less Inv-loop μ-loop
+loop-less c = search needs
+
+loop-again : tie.Need-loop-again Inv-loop μ-loop
+loop-again c =
+    let t = c .before .before in
+    let l = t .before .loop in
+    (omega arith, l .inv .1, gone-absent _ _ _ _ _ _ _ (l .inv .2) (t .loop-test .taken) (sym (c .before .includes .ensures) ∙ not-true _ (c .if1 .taken)), l .inv .3)
+
+descriptor-end-requires : tie.Need-descriptor-end-requires Inv-loop μ-loop
+descriptor-end-requires c κs = search needs
+
+enum-known-outcome-2 : tie.Need-enum-known-outcome-2 Inv-loop μ-loop
+enum-known-outcome-2 c = search needs
+
+array-read-descriptor-at : tie.Need-array-read-descriptor-at Inv-loop μ-loop
+array-read-descriptor-at c = search needs
+
+descriptor-at-requires : tie.Need-descriptor-at-requires Inv-loop μ-loop
+descriptor-at-requires c κs = let x = there (c .before) 0 in (x .there, x .admitted)
+
+mul-descriptors : tie.Need-mul-descriptors Inv-loop μ-loop
+mul-descriptors c = search needs
+
+array-set-from-descriptors : tie.Need-array-set-from-descriptors Inv-loop μ-loop
+array-set-from-descriptors c = search needs
+
+is-stored-requires : tie.Need-is-stored-requires Inv-loop μ-loop
+is-stored-requires c κs = search needs
+
+array-write-stored : tie.Need-array-write-stored Inv-loop μ-loop
+array-write-stored c = search needs
+
+add-channel-2 : tie.Need-add-channel-2 Inv-loop μ-loop
+add-channel-2 c = search needs
+
+loop-less-2 : tie.Need-loop-less-2 Inv-loop μ-loop
+loop-less-2 c = search needs
+
+loop-again-2 : tie.Need-loop-again-2 Inv-loop μ-loop
+unfolding signedOf
+loop-again-2 c =
+    let a = c .before in
+    let e = a .before .before in
+    let d = e .before .before in
+    let t = d .before .before .before in
+    let l = t .before .loop in
+    let sign = ap (λ x. getD x (l .channel) false) (t .before .before .signs .ensures) in
+    let f = a .descriptor-at .ensures (l .channel) sign ∙ ap (ok (a .descriptor-at .result)) (sym (there e (l .channel) .end)) in (
+      omega arith,
+      refl,
+      gone-on _ _ _ _ _ _ _ (l .inv .2) (t .loop-test .taken) (included d) f,
+      rw (l .inv .3, c .is-stored .ensures) (map-set isStored (l .descriptors) (l .channel) (a .descriptor-at .result)),
+    )
+
+returns : tie.Need-returns Inv-loop μ-loop
 unfolding described
-returns c = c .ended .ensures ∙ sym (ap described (description-out _ _ _ (omega arith)))
+returns c =
+    let l = c .before in
+    rw (l .loop .inv .1, l .loop .inv .3, whole (l .before .before .before), gone-all _ _ _ _ _ _ _ (l .loop .inv .2) (c .loop-test .left))
 
-shared-slice-read-if2 : tie.Need-shared-slice-read-if2
-shared-slice-read-if2 c = search needs
+returns-2 : tie.Need-returns-2 Inv-loop μ-loop
+unfolding nothing
+returns-2 c =
+    let d = c .before in
+    let t = d .before .before .before in
+    let l = t .before in
+    let q = not-done (d .descriptor-end .result) (c .match2 .keys2) in
+    let e = gone-no-further _ _ _ _ _ _ _ (l .loop .inv .2) (t .loop-test .taken) (included d) _ q (d .descriptor-end .ensures _) in
+    described-ended _ _ q (e ∙ ap told (sym (whole (l .before .before .before))))
 
-ended-requires-2 : tie.Need-ended-requires-2
-ended-requires-2 c κs = search needs
-
-returns-2 : tie.Need-returns-2
-unfolding described
-returns-2 c = c .ended2 .ensures ∙ sym (ap described (description-bad _ _ _ (omega arith) (omega arith)))
-
-sub-if3 : tie.Need-sub-if3
-sub-if3 c = search needs
-
-ended-requires-3 : tie.Need-ended-requires-3
-ended-requires-3 c κs = search needs
-
-returns-3 : tie.Need-returns-3
-unfolding described
+returns-3 : tie.Need-returns-3 Inv-loop μ-loop
+unfolding nothing
 returns-3 c =
-    let e = c .before .before in
-    let a = e .before .before .before .before .args in
-    c .ended3 .ensures ∙ sym (ap described (description-cut _ _ _ (omega arith) (omega arith) (e .before .shared-slice-known2 .given (a .start) .fits) (omega arith)))
-
-add-channels-at : tie.Need-add-channels-at
-add-channels-at c = search needs
-
-shared-slice-read-pair : tie.Need-shared-slice-read-pair
-shared-slice-read-pair c = search needs
-
-add-pair : tie.Need-add-pair
-add-pair c = search needs
-
-shared-slice-read-pair-2 : tie.Need-shared-slice-read-pair-2
-shared-slice-read-pair-2 c = search needs
-
-pair-requires : tie.Need-pair-requires
-pair-requires c κs = search needs
-
-channels-at-requires : tie.Need-channels-at-requires
-channels-at-requires c κs = search needs
-
-returns-4 : tie.Need-returns-4
-returns-4 c =
-    let e = c .before .before .before .before .before in
-    let a = e .before .before .before .before .args in
-    c .channels-at .ensures
-    ∙ rw (c .before .pair .ensures)
-    (sym (ap described (description-channels _ _ _ (omega arith) (omega arith) (e .before .shared-slice-known2 .given (a .start) .fits) (omega arith))))
+    let o = c .before .opening-at in
+    let q = not-done (o .result .outcome) (c .match .keys2) in
+    described-ended _ _ q (behind-ended _ _ q (o .ensures _))
 
 pub read-spec : {M : Type 1} → statement M
 read-spec =
     tie.close
     (tie.spec
-    ended-requires
+    Inv-loop
+    μ-loop
+    opening-at-requires
+    enum-known-outcome
+    signs-requires
+    loop-holds
+    includes-requires
+    add-channel
+    loop-less
+    loop-again
+    descriptor-end-requires
+    enum-known-outcome-2
+    array-read-descriptor-at
+    descriptor-at-requires
+    mul-descriptors
+    array-set-from-descriptors
+    is-stored-requires
+    array-write-stored
+    add-channel-2
+    loop-less-2
+    loop-again-2
     returns
-    shared-slice-read-if2
-    ended-requires-2
     returns-2
-    sub-if3
-    ended-requires-3
-    returns-3
-    add-channels-at
-    shared-slice-read-pair
-    add-pair
-    shared-slice-read-pair-2
-    pair-requires
-    channels-at-requires
-    returns-4)
+    returns-3)

@@ -1,0 +1,75 @@
+-- `descriptions::opening_at` meets its contract: the first byte is judged before the second is looked for, and the channels follow.
+use mathlib.Core.Path.{sym, ap, _∙_}
+use native.Mathlib.Omega.{arith}
+use borrow.Author.Needs.{needs}
+use Rattle.descriptions.specs.Read.{behind}
+use Rattle.descriptions.proofs.Parts.{description-out, description-bad, description-cut, description-channels}
+use Rattle.descriptions.proofs.opening_at.Statement.{statement}
+use Rattle.descriptions.proofs.opening_at.Tie as tie
+
+unopened-requires : tie.Need-unopened-requires
+unopened-requires c κs = search needs
+
+returns : tie.Need-returns
+unfolding behind
+returns c w = rw (c .unopened .ensures) (description-out w _ _ (omega arith))
+
+shared-slice-read-first : tie.Need-shared-slice-read-first
+shared-slice-read-first c = search needs
+
+unopened-requires-2 : tie.Need-unopened-requires-2
+unopened-requires-2 c κs = search needs
+
+returns-2 : tie.Need-returns-2
+unfolding behind
+returns-2 c w = rw (c .unopened2 .ensures) (description-bad w _ _ (omega arith) (omega arith))
+
+sub-if3 : tie.Need-sub-if3
+sub-if3 c = search needs
+
+unopened-requires-3 : tie.Need-unopened-requires-3
+unopened-requires-3 c κs = search needs
+
+returns-3 : tie.Need-returns-3
+unfolding behind
+returns-3 c w =
+    let e = c .before .before in
+    let a = e .before .before .before .before .args in
+    rw (c .unopened3 .ensures) (description-cut w _ _ (omega arith) (omega arith) (e .before .shared-slice-known2 .given (a .start) .fits) (omega arith))
+
+add-t4 : tie.Need-add-t4
+add-t4 c = search needs
+
+add-pair : tie.Need-add-pair
+add-pair c = search needs
+
+shared-slice-read-pair : tie.Need-shared-slice-read-pair
+shared-slice-read-pair c = search needs
+
+pair-requires : tie.Need-pair-requires
+pair-requires c κs = search needs
+
+returns-4 : tie.Need-returns-4
+unfolding behind
+returns-4 c w =
+    let e = c .before .before .before in
+    let a = e .before .before .before .before .args in
+    rw (c .pair .ensures) (description-channels w _ _ (omega arith) (omega arith) (e .before .shared-slice-known2 .given (a .start) .fits) (omega arith))
+
+pub opening-at-spec : {M : Type 1} → statement M
+opening-at-spec =
+    tie.close
+    (tie.spec
+    unopened-requires
+    returns
+    shared-slice-read-first
+    unopened-requires-2
+    returns-2
+    sub-if3
+    unopened-requires-3
+    returns-3
+    add-t4
+    add-pair
+    shared-slice-read-pair
+    pair-requires
+    returns-4)
