@@ -2,15 +2,16 @@
 use mathlib.Core.Path.{_≡_, refl, sym, ap, _∙_}
 use mathlib.Core.Bool.{Bool, true, false, cond, _&&_}
 use mathlib.Core.List.{List, [], _∷_, _++_, map, flatMap, append-nil, append-assoc}
-use mathlib.Core.Logic.{_⊎_, inl, inr, ⊎-elim}
+use mathlib.Core.Logic.{by-cases}
 use mathlib.Core.Option.{some, none}
 use Prim.Native.Nat.{ℕ, zero, suc, _+_, _-_, _*_, _/_, _%_, _^_, _≤_, _<_}
+use native.Mathlib.Decide.{decLt}
 use native.Mathlib.Numerals.{add-one}
 use native.Mathlib.Omega.{arith}
-use borrow.Author.Tests.{ne-eqb, le-leb, ltb-true}
-use lib.Dec.{T, eqb}
+use borrow.Author.Tests.{ne-eqb, le-leb, lt-leb, lt-ltb, le-ltb, ltb-true}
+use lib.Dec.{T, leb·zero}
 use lib.IntN.{ℤ, pos, negsuc, natAbs, _+ℤ_, _-ℤ_}
-use lib.Signed.{nonNeg, ltZ}
+use lib.Signed.{nonNeg, leZ, ltZ}
 use mir.Syntax.{w8, w16, w32}
 use mir.Val.{SFits, Fits}
 use lib.ListN.{length, getD, set, take, drop, drop-of-length-le, length-append}
@@ -21,11 +22,9 @@ use Rattle.formats.specs.Put.{puts, length-puts, puts-is}
 use Rattle.formats.specs.Laid.{Room, Laid}
 use Rattle.formats.specs.Writes.{encodeEach}
 use Rattle.formats.specs.Lent.{writing}
-use Rattle.channels.specs.Channel.{S, signedOf}
-use Rattle.channels.specs.Stored.{offset, valueOf, storedOf, storedIf, fits}
-use Rattle.channels.specs.Switch.{byteOf, byteIf, isState}
-use Rattle.channels.specs.declared.Stored.{Stored}
-use Rattle.channels.specs.declared.Stored.the-variants.{Number, Outside}
+use Rattle.channels.specs.Channel.{S, signs, signedOf}
+use Rattle.channels.specs.Stored.{offset, valueOf, storedOf, fits, ranges}
+use Rattle.channels.specs.Switch.{byteOf, isState}
 use Rattle.channels.specs.declared.Descriptor.{Descriptor}
 use Rattle.channels.specs.declared.Description.{Description}
 use Rattle.descriptions.specs.Description.{absent, isStored, encodeDescription}
@@ -43,41 +42,30 @@ use Rattle.records.specs.declared.Written.the-variants as answers
 
 -- ---- One number
 
--- what is stored for it, if anything is
-unfoldable pub sampleStored : ℕ → ℤ → Stored
-sampleStored channel v = cond (eqb channel S) (byteIf v) (storedIf 2 (signedOf channel) v)
+-- the sign that a loop over channels is lent
+pub sign-lent : (l : List Bool) → l ≡ signs → (channel : ℕ) → getD l channel false ≡ signedOf channel
+unfolding signedOf
+sign-lent l e channel = ap (λ x. getD x channel false) e
+
+-- the two ends of a range
+state-ends : (v : ℤ) → isState v ≡ (leZ (pos 0) v && leZ v (pos 1))
+unfolding isState
+state-ends (pos n) = rw (leb·zero n) (by-cases (decLt n 2) (λ h. lt-ltb n 2 h ∙ sym (le-leb n 1 (omega arith))) (λ h. le-ltb n 2 (omega arith) ∙ sym (lt-leb n 1 (omega arith))))
+state-ends (negsuc n) = refl
+
+wide-ends : (signed : Bool) (v : ℤ) → fits 2 signed v ≡ (leZ (valueOf 2 signed 0) v && leZ v (valueOf 2 signed 65535))
+unfolding valueOf offset
+wide-ends true v = ranges v .signed
+wide-ends false v = ranges v .unsigned
 
 module _ (channel : ℕ) (v : ℤ) where
-  pub stored-switch : channel ≡ S → sampleStored channel v ≡ byteIf v
-  unfolding sampleStored
-  stored-switch e = rw e
+  pub switch-fits : channel ≡ S → fitsSample channel v ≡ (leZ (pos 0) v && leZ v (pos 1))
+  unfolding fitsSample
+  switch-fits e = rw e (state-ends v)
 
-  pub stored-wide : (channel ≡ S → ⊥) → sampleStored channel v ≡ storedIf 2 (signedOf channel) v
-  unfolding sampleStored
-  stored-wide e = rw (ne-eqb channel S e)
-
-  by-test : sampleStored channel v ≡ cond (fitsSample channel v) (Number (cond (eqb channel S) (byteOf v) (storedOf 2 (signedOf channel) v))) Outside
-  unfolding sampleStored fitsSample byteIf storedIf
-  by-test = go (eqb channel S)
-    where
-      go : (t : Bool) → cond t (cond (isState v) (Number (byteOf v)) Outside) (cond (fits 2 (signedOf channel) v) (Number (storedOf 2 (signedOf channel) v)) Outside)
-          ≡ cond (cond t (isState v) (fits 2 (signedOf channel) v)) (Number (cond t (byteOf v) (storedOf 2 (signedOf channel) v))) Outside
-      go true = refl
-      go false = refl
-
-  pub sample-found : {n : ℕ} → sampleStored channel v ≡ Number n → fitsSample channel v ≡ true
-  sample-found {n} e = go (fitsSample channel v) refl (sym by-test ∙ e)
-    where
-      go : (t : Bool) → fitsSample channel v ≡ t → cond t (Number (cond (eqb channel S) (byteOf v) (storedOf 2 (signedOf channel) v))) Outside ≡ Number n → fitsSample channel v ≡ true
-      go true h q = h
-      go false h q = impossible (cc)
-
-  pub sample-outside : sampleStored channel v ≡ Outside → fitsSample channel v ≡ false
-  sample-outside e = go (fitsSample channel v) refl (sym by-test ∙ e)
-    where
-      go : (t : Bool) → fitsSample channel v ≡ t → cond t (Number (cond (eqb channel S) (byteOf v) (storedOf 2 (signedOf channel) v))) Outside ≡ Outside → fitsSample channel v ≡ false
-      go true h q = impossible (cc)
-      go false h q = h
+  pub other-fits : (channel ≡ S → ⊥) → fitsSample channel v ≡ (leZ (valueOf 2 (signedOf channel) 0) v && leZ v (valueOf 2 (signedOf channel) 65535))
+  unfolding fitsSample
+  other-fits e = rw (ne-eqb channel S e) (wide-ends (signedOf channel) v)
 
 -- and so the bytes that are put
 module _ (channel : ℕ) (v : ℤ) (h : fitsSample channel v ≡ true) where

@@ -3,7 +3,6 @@ use channels::Description;
 use channels::Descriptor;
 use channels::Format;
 use channels::Place;
-use channels::Stored;
 use channels::Switch;
 use descriptions::Flaw;
 use formats::Outcome;
@@ -22,7 +21,7 @@ ghost use Rattle.formats.specs.Number.{digits};
 ghost use Rattle.formats.specs.Writes.{encodeEach};
 ghost use Rattle.formats.specs.Laid.{Room, Laid};
 ghost use Rattle.formats.specs.Lent.{writing};
-ghost use Rattle.channels.specs.Channel.{signedOf};
+ghost use Rattle.channels.specs.Channel.{signs as signTable};
 ghost use Rattle.channels.specs.Stored.{fits, storedOf};
 ghost use Rattle.channels.specs.declared.Description.{Description};
 ghost use Rattle.descriptions.specs.Description.{isStored, encodeDescription};
@@ -731,23 +730,23 @@ fn stored_count(held: [bool; 16]) -> usize
 }
 
 // Whether a number is in its channel's range: S is a state, and any other is what two bytes hold.
-fn sample_fits(channel: usize, value: i32) -> bool
+// This and each that follows is lent the table of signs, which is laid down once a record and not once a number.
+fn sample_fits(channel: usize, value: i32, signs: &[bool; 16]) -> bool
+    requires { ⌜ (channel < 16) × (now signs ≡ signTable) ⌝ }
     ensures { λ r. ⌜ r ≡ fitsSample channel value ⌝ }
 {
-    let stored = if channel == channels::S {
-        channels::byte_of(value)
-    } else {
-        channels::stored_of(Format::Full, channels::is_signed(channel), value)
-    };
-    match stored {
-        Stored::Number(_) => true,
-        Stored::Outside => false,
+    if channel == channels::S {
+        return (0 <= value) & (value <= 1);
     }
+    let signed = signs[channel];
+    let least = channels::value_of(Format::Full, signed, 0);
+    let most = channels::value_of(Format::Full, signed, 65535);
+    (least <= value) & (value <= most)
 }
 
 // Whether the values from a place on are in the ranges of a point's channels.
-fn point_fits(values: &[i32], from: usize, held: &[bool; 16]) -> bool
-    requires { ⌜ (length (now held) ≡ 16) × (from + length (heldFrom 0 (now held)) ≤ length (now values)) ⌝ }
+fn point_fits(values: &[i32], from: usize, held: &[bool; 16], signs: &[bool; 16]) -> bool
+    requires { ⌜ (length (now held) ≡ 16) × (now signs ≡ signTable) × (from + length (heldFrom 0 (now held)) ≤ length (now values)) ⌝ }
     ensures { λ r. ⌜ r ≡ fitsEach (heldFrom 0 (now (held .entry))) (drop from (now (values .entry))) ⌝ }
 {
     let mut j = from;
@@ -755,7 +754,7 @@ fn point_fits(values: &[i32], from: usize, held: &[bool; 16]) -> bool
     while i < 16 {
         if held[i] {
             let value = values[j];
-            if !sample_fits(i, value) {
+            if !sample_fits(i, value, signs) {
                 return false;
             }
             j += 1;
@@ -766,8 +765,8 @@ fn point_fits(values: &[i32], from: usize, held: &[bool; 16]) -> bool
 }
 
 // The values of n points, point by point.
-fn values_fit(values: &[i32], n: usize, size: usize, held: &[bool; 16]) -> bool
-    requires { ⌜ (length (now held) ≡ 16) × (size ≡ length (heldFrom 0 (now held))) × (length (now values) ≡ n * length (heldFrom 0 (now held))) ⌝ }
+fn values_fit(values: &[i32], n: usize, size: usize, held: &[bool; 16], signs: &[bool; 16]) -> bool
+    requires { ⌜ (length (now held) ≡ 16) × (now signs ≡ signTable) × (size ≡ length (heldFrom 0 (now held))) × (length (now values) ≡ n * length (heldFrom 0 (now held))) ⌝ }
     ensures { λ r. ⌜ r ≡ fitsRow (heldFrom 0 (now (held .entry))) n (now (values .entry)) ⌝ }
 {
     if size == 0 {
@@ -776,7 +775,7 @@ fn values_fit(values: &[i32], n: usize, size: usize, held: &[bool; 16]) -> bool
     let mut from: usize = 0;
     let mut i: usize = 0;
     while i < n {
-        if !point_fits(values, from, held) {
+        if !point_fits(values, from, held, signs) {
             return false;
         }
         from += size;
@@ -796,30 +795,37 @@ fn put_pair(out: &mut [u8], at: usize, number: u16) -> usize
 }
 
 // What is stored for a number that fits its channel: how far it is above the least, which is stored as 0. It isn't tested again.
-fn stored_number(channel: usize, value: i32) -> u16
-    requires { ⌜ fits 2 (signedOf channel) value ≡ true ⌝ }
-    ensures { λ r. ⌜ r ≡ storedOf 2 (signedOf channel) value ⌝ }
+fn stored_number(signed: bool, value: i32) -> u16
+    requires { ⌜ fits 2 signed value ≡ true ⌝ }
+    ensures { λ r. ⌜ r ≡ storedOf 2 signed value ⌝ }
 {
-    let least = channels::value_of(Format::Full, channels::is_signed(channel), 0);
+    let least = channels::value_of(Format::Full, signed, 0);
     (value - least) as u16
 }
 
 // A number of a sample point that fits is put: S as its state, any other as what is stored for it.
-fn put_sample(out: &mut [u8], at: usize, channel: usize, value: i32) -> usize
-    requires { ⌜ (fitsSample channel value ≡ true) × Room (now out) at (encodeSample channel value) ⌝ }
+fn put_sample(out: &mut [u8], at: usize, channel: usize, value: i32, signs: &[bool; 16]) -> usize
+    requires { ⌜ (channel < 16) × (now signs ≡ signTable) × (fitsSample channel value ≡ true) × Room (now out) at (encodeSample channel value) ⌝ }
     ensures { λ r. ⌜ Laid (now (out .entry)) at (encodeSample channel value) (now (out .exit)) r ⌝ }
 {
     if channel == channels::S {
         out[at] = value as u8;
         at + 1
     } else {
-        put_pair(out, at, stored_number(channel, value))
+        put_pair(out, at, stored_number(signs[channel], value))
     }
 }
 
 // A sample point is put from the values that stand from a place on.
-fn put_point(out: &mut [u8], start: usize, values: &[i32], from: usize, held: &[bool; 16]) -> usize
-    requires { ⌜ (length (now held) ≡ 16) × (from + length (heldFrom 0 (now held)) ≤ length (now values)) × (fitsEach (heldFrom 0 (now held)) (drop from (now values)) ≡ true) × Room (now out) start (encodeEach encodeSample (heldFrom 0 (now held)) (drop from (now values))) ⌝ }
+fn put_point(
+    out: &mut [u8],
+    start: usize,
+    values: &[i32],
+    from: usize,
+    held: &[bool; 16],
+    signs: &[bool; 16],
+) -> usize
+    requires { ⌜ (length (now held) ≡ 16) × (now signs ≡ signTable) × (from + length (heldFrom 0 (now held)) ≤ length (now values)) × (fitsEach (heldFrom 0 (now held)) (drop from (now values)) ≡ true) × Room (now out) start (encodeEach encodeSample (heldFrom 0 (now held)) (drop from (now values))) ⌝ }
     ensures { λ r. ⌜ Laid (now (out .entry)) start (encodeEach encodeSample (heldFrom 0 (now (held .entry))) (drop from (now (values .entry)))) (now (out .exit)) r ⌝ }
 {
     let mut at = start;
@@ -828,7 +834,7 @@ fn put_point(out: &mut [u8], start: usize, values: &[i32], from: usize, held: &[
     while i < 16 {
         if held[i] {
             let value = values[j];
-            at = put_sample(out, at, i, value);
+            at = put_sample(out, at, i, value, signs);
             j += 1;
         }
         i += 1;
@@ -844,8 +850,9 @@ fn put_points(
     n: usize,
     size: usize,
     held: &[bool; 16],
+    signs: &[bool; 16],
 ) -> usize
-    requires { ⌜ (length (now held) ≡ 16) × (size ≡ length (heldFrom 0 (now held))) × (length (now values) ≡ n * length (heldFrom 0 (now held))) × (fitsRow (heldFrom 0 (now held)) n (now values) ≡ true) × Room (now out) start (rowBytes (heldFrom 0 (now held)) n (now values)) ⌝ }
+    requires { ⌜ (length (now held) ≡ 16) × (now signs ≡ signTable) × (size ≡ length (heldFrom 0 (now held))) × (length (now values) ≡ n * length (heldFrom 0 (now held))) × (fitsRow (heldFrom 0 (now held)) n (now values) ≡ true) × Room (now out) start (rowBytes (heldFrom 0 (now held)) n (now values)) ⌝ }
     ensures { λ r. ⌜ Laid (now (out .entry)) start (rowBytes (heldFrom 0 (now (held .entry))) n (now (values .entry))) (now (out .exit)) r ⌝ }
 {
     if size == 0 {
@@ -855,7 +862,7 @@ fn put_points(
     let mut from: usize = 0;
     let mut i: usize = 0;
     while i < n {
-        at = put_point(out, at, values, from, held);
+        at = put_point(out, at, values, from, held, signs);
         from += size;
         i += 1;
     }
@@ -945,7 +952,8 @@ fn check_values(
     if values.len() != count * size {
         return Written::Amount;
     }
-    if !values_fit(values, count, size, &held) {
+    let signs = channels::signs();
+    if !values_fit(values, count, size, &held, &signs) {
         return Written::ValueRange;
     }
     if wanted {
@@ -974,7 +982,8 @@ fn put_record(
     let at = put_front(out, described, wanted, count);
     let held = stored_channels(d);
     let size = stored_count(held);
-    let at = put_points(out, at, values, count, size, &held);
+    let signs = channels::signs();
+    let at = put_points(out, at, values, count, size, &held, &signs);
     put_extension(out, at, wanted, extended)
 }
 

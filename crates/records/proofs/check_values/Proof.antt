@@ -54,16 +54,20 @@ returns-2 c = sym (at-amount _ _ _ _ _ (counted (c .before .before)) (λ e. c .i
 amount : (c : tie.Else2) → length (start (c .before .before) .args .values .now) ≡ start (c .before .before) .args .count * length (stored (start (c .before .before) .args .d))
 amount c = c .if2 .left ∙ sym (amounts (c .before))
 
+signs-requires : tie.Need-signs-requires
+signs-requires c κs = search needs
+
 values-fit-requires : tie.Need-values-fit-requires
 values-fit-requires c κs =
-    let e = c .before in
+    let g = c .before .before in
+    let e = g .before in
     let m = e .before .before in
-    (m .stored-channels .ensures .1, e .before .stored-count .ensures .0, rw (held m) (amount e))
+    (m .stored-channels .ensures .1, g .signs .ensures, e .before .stored-count .ensures .0, rw (held m) (amount e))
 
 -- what was found of the values
 module _ (c : tie.After-values-fit) where
   abbrev marked : tie.After-stored-channels
-  marked = c .before .before .before .before
+  marked = c .before .before .before .before .before .before
 
   judged : c .values-fit .result ≡ fitsRow (stored (start marked .args .d)) (start marked .args .count) (start marked .args .values .now)
   judged = rw (held marked) at (c .values-fit .ensures)
@@ -71,7 +75,7 @@ module _ (c : tie.After-values-fit) where
 returns-3 : tie.Need-returns-3
 returns-3 c =
     let v = c .before in
-    sym (at-values _ _ _ _ _ (counted (marked v)) (amount (v .before .before)) (sym (judged v) ∙ not-true _ (c .if3 .taken)))
+    sym (at-values _ _ _ _ _ (counted (marked v)) (amount (v .before .before .before .before)) (sym (judged v) ∙ not-true _ (c .if3 .taken)))
 
 fitting : (c : tie.Else3) → c .before .values-fit .result ≡ true
 fitting c = not-false _ (c .if3 .left)
@@ -80,7 +84,7 @@ returns-4 : tie.Need-returns-4
 returns-4 c =
     let e = c .before .before in
     let v = e .before in
-    sym (at-extended _ _ _ _ _ (counted (marked v)) (amount (v .before .before)) (sym (judged v) ∙ fitting e) (c .before .if4 .taken) (c .if5 .taken))
+    sym (at-extended _ _ _ _ _ (counted (marked v)) (amount (v .before .before .before .before)) (sym (judged v) ∙ fitting e) (c .before .if4 .taken) (c .if5 .taken))
 
 small : (c : tie.Joined4) → T (start (marked (c .before .before)) .args .wanted) → length (start (marked (c .before .before)) .args .extended .now) < 65536
 small c h = ⊎-elim (λ w. omega (arith, w .1 .left)) (λ w. absurd (rw (w .left) at h)) (c .if4 .came)
@@ -115,7 +119,7 @@ returns-5 c =
     let v = e .before in
     let a = start (marked v) .args in
     let f = sym (judged v) ∙ fitting e in
-    sym (at-record _ _ _ _ _ (counted (marked v)) (amount (v .before .before)) f (small j) (size c ∙ record-length (a .d) (a .count) (a .values .now) (a .wanted) (a .extended .now) f))
+    sym (at-record _ _ _ _ _ (counted (marked v)) (amount (v .before .before .before .before)) f (small j) (size c ∙ record-length (a .d) (a .count) (a .values .now) (a .wanted) (a .extended .now) f))
 
 pub check-values-spec : {M : Type 1} → statement M
 check-values-spec =
@@ -126,6 +130,7 @@ check-values-spec =
     stored-count-requires
     mul-if2
     returns-2
+    signs-requires
     values-fit-requires
     returns-3
     returns-4

@@ -17,10 +17,10 @@ use Rattle.records.proofs.point_fits.Statement.{statement}
 use Rattle.records.proofs.point_fits.Tie as tie
 
 abbrev Inv-loop : tie.InvT-loop
-Inv-loop values from held j₀ i₀ j i = (i ≤ 16) × (from + length (heldFrom 0 held) ≡ j + many held values i) × (fitsEach (heldFrom 0 held) (drop from values) ≡ fitting held values i j)
+Inv-loop values from held signs j₀ i₀ j i = (i ≤ 16) × (from + length (heldFrom 0 held) ≡ j + many held values i) × (fitsEach (heldFrom 0 held) (drop from values) ≡ fitting held values i j)
 
 abbrev μ-loop : tie.MeasureT-loop
-μ-loop values from held j₀ i₀ j i = 16 - i
+μ-loop values from held signs j₀ i₀ j i = 16 - i
 
 sixteen : (s : tie.Start Inv-loop μ-loop) → length (s .args .held .now) ≡ 16
 sixteen s = s .pre .0
@@ -44,7 +44,7 @@ module _ (c : tie.Then1 Inv-loop μ-loop) where
   is-held = c .if1 .taken
 
   there : turn .loop .j < length (turn .before .args .values .now)
-  there = omega (arith, turn .loop .inv .1, turn .before .pre .1, take-many (turn .before .args .held .now) (turn .before .args .values .now) (turn .loop .i) 0 within is-held)
+  there = omega (arith, turn .loop .inv .1, turn .before .pre .2, take-many (turn .before .args .held .now) (turn .before .args .values .now) (turn .loop .i) 0 within is-held)
 
 mul-value : tie.Need-mul-value Inv-loop μ-loop
 mul-value c = let h = there c in search needs
@@ -53,7 +53,7 @@ shared-slice-copy-out-value : tie.Need-shared-slice-copy-out-value Inv-loop μ-l
 shared-slice-copy-out-value c = there c
 
 sample-fits-requires : tie.Need-sample-fits-requires Inv-loop μ-loop
-sample-fits-requires c κs = search needs
+sample-fits-requires c κs = (omega arith, turn (c .before) .before .pre .1)
 
 -- whether it fits
 verdict : (c : tie.After-sample-fits Inv-loop μ-loop)

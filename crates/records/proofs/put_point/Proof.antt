@@ -21,17 +21,17 @@ use Rattle.records.proofs.put_point.Statement.{statement}
 use Rattle.records.proofs.put_point.Tie as tie
 
 abbrev Inv-loop : tie.InvT-loop
-Inv-loop out₀ start values from held at₀ j₀ i₀ out at j i = (i ≤ 16) × (from + length (heldFrom 0 held) ≡ j + many held values i) × (fitting held values i j ≡ true) × Owed out₀ start (encodeEach encodeSample (heldFrom 0 held) (drop from values)) out at (left held values i j)
+Inv-loop out₀ start values from held signs at₀ j₀ i₀ out at j i = (i ≤ 16) × (from + length (heldFrom 0 held) ≡ j + many held values i) × (fitting held values i j ≡ true) × Owed out₀ start (encodeEach encodeSample (heldFrom 0 held) (drop from values)) out at (left held values i j)
 
 abbrev μ-loop : tie.MeasureT-loop
-μ-loop out₀ start values from held at₀ j₀ i₀ out at j i = 16 - i
+μ-loop out₀ start values from held signs at₀ j₀ i₀ out at j i = 16 - i
 
 sixteen : (s : tie.Start Inv-loop μ-loop) → length (s .args .held .now) ≡ 16
 sixteen s = s .pre .0
 
 loop-holds : tie.Need-loop-holds Inv-loop μ-loop
 unfolding many fitting left
-loop-holds c = (omega arith, omega arith, c .before .pre .2, owed-all _ _ _)
+loop-holds c = (omega arith, omega arith, c .before .pre .3, owed-all _ _ _)
 
 element-copy-out-if1 : tie.Need-element-copy-out-if1 Inv-loop μ-loop
 element-copy-out-if1 c = search needs
@@ -51,7 +51,7 @@ module _ (c : tie.Then1 Inv-loop μ-loop) where
   is-held = c .if1 .taken
 
   there : turn .loop .j < length (turn .before .before .args .values .now)
-  there = omega (arith, turn .loop .inv .1, turn .before .before .pre .1, take-many (turn .before .before .args .held .now) (turn .before .before .args .values .now) (turn .loop .i) 0 within is-held)
+  there = omega (arith, turn .loop .inv .1, turn .before .before .pre .2, take-many (turn .before .before .args .held .now) (turn .before .before .args .values .now) (turn .loop .i) 0 within is-held)
 
   fits : (fitsSample (turn .loop .i) value ≡ true) × (fitting (turn .before .before .args .held .now) (turn .before .before .args .values .now) (turn .loop .i + 1) (turn .loop .j + 1) ≡ true)
   fits =
@@ -80,7 +80,7 @@ shared-slice-copy-out-value c = there c
 put-sample-requires : tie.Need-put-sample-requires Inv-loop μ-loop
 put-sample-requires c κs =
     let t = c .before .before in
-    rw (read (c .before)) (fits t .0, room-first _ _ (owed-room (owed t) (turn t .before .before .pre .3)))
+    rw (read (c .before)) (omega arith, turn t .before .before .pre .1, fits t .0, room-first _ _ (owed-room (owed t) (turn t .before .before .pre .4)))
 
 add-j : tie.Need-add-j Inv-loop μ-loop
 add-j c = let h = there (c .before .before .before .before .before) in record { fits = omega arith }

@@ -16,21 +16,21 @@ use Rattle.records.proofs.put_points.Statement.{statement}
 use Rattle.records.proofs.put_points.Tie as tie
 
 abbrev Inv-loop : tie.InvT-loop
-Inv-loop out₀ start values n size held at₀ from₀ i₀ out at from i = (i ≤ n) × (from + (n - i) * length (heldFrom 0 held) ≡ length values) × (rowFitting (heldFrom 0 held) values n i from ≡ true) × Owed out₀ start (rowBytes (heldFrom 0 held) n values) out at (rowLeft (heldFrom 0 held) values n i from)
+Inv-loop out₀ start values n size held signs at₀ from₀ i₀ out at from i = (i ≤ n) × (from + (n - i) * length (heldFrom 0 held) ≡ length values) × (rowFitting (heldFrom 0 held) values n i from ≡ true) × Owed out₀ start (rowBytes (heldFrom 0 held) n values) out at (rowLeft (heldFrom 0 held) values n i from)
 
 abbrev μ-loop : tie.MeasureT-loop
-μ-loop out₀ start values n size held at₀ from₀ i₀ out at from i = n - i
+μ-loop out₀ start values n size held signs at₀ from₀ i₀ out at from i = n - i
 
 returns : tie.Need-returns Inv-loop μ-loop
 returns c =
     let s = c .before .before in
-    rw (writes-nothing (heldFrom 0 (s .args .held .now)) (sym (s .pre .1) ∙ c .if1 .taken) (s .args .n) (s .args .values .now)) (laid-none _ _)
+    rw (writes-nothing (heldFrom 0 (s .args .held .now)) (sym (s .pre .2) ∙ c .if1 .taken) (s .args .n) (s .args .values .now)) (laid-none _ _)
 
 loop-holds : tie.Need-loop-holds Inv-loop μ-loop
 unfolding rowFitting rowLeft
 loop-holds c =
     let s = c .before .before in
-    (omega arith, simp sub-zero (omega (arith, s .pre .2)), simp sub-zero (s .pre .3), simp sub-zero (owed-all _ _ _))
+    (omega arith, simp sub-zero (omega (arith, s .pre .3)), simp sub-zero (s .pre .4), simp sub-zero (owed-all _ _ _))
 
 -- the next point fits, and its bytes come next
 module _ (c : tie.In-loop Inv-loop μ-loop) where
@@ -56,14 +56,14 @@ put-point-requires c κs =
     let l = c .before in
     let s = start l in
     let a = s .args in
-    (s .pre .0, omega (arith, l .before .loop .inv .1, row-many (heldFrom 0 (a .held .now)) (a .values .now) (a .n) (l .before .loop .i) (l .loop-test .taken)), fits l .0, room-first _ _ (owed-room (owed l) (s .pre .4)))
+    (s .pre .0, s .pre .1, omega (arith, l .before .loop .inv .1, row-many (heldFrom 0 (a .held .now)) (a .values .now) (a .n) (l .before .loop .i) (l .loop-test .taken)), fits l .0, room-first _ _ (owed-room (owed l) (s .pre .5)))
 
 add-from : tie.Need-add-from Inv-loop μ-loop
 add-from c =
     let k = c .before .before .before .before in
     let l = k .before in
     let a = l .before .before .before .args in
-    omega (arith, l .before .before .before .pre .1, l .loop .inv .1, row-many (heldFrom 0 (a .held .now)) (a .values .now) (a .n) (l .loop .i) (k .loop-test .taken))
+    omega (arith, l .before .before .before .pre .2, l .loop .inv .1, row-many (heldFrom 0 (a .held .now)) (a .values .now) (a .n) (l .loop .i) (k .loop-test .taken))
 
 add-i : tie.Need-add-i Inv-loop μ-loop
 add-i c = omega arith
@@ -77,7 +77,7 @@ loop-again c =
     let k = p .before .before in
     let l = k .before in
     let a = l .before .before .before .args in
-    rw (l .before .before .before .pre .1)
+    rw (l .before .before .before .pre .2)
     (omega arith, omega (arith, l .loop .inv .1, row-many (heldFrom 0 (a .held .now)) (a .values .now) (a .n) (l .loop .i) (k .loop-test .taken)), fits k .1, owed-next (owed k) (p .put-point .ensures))
 
 same-length : tie.Need-same-length Inv-loop μ-loop

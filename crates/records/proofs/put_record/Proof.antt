@@ -48,18 +48,22 @@ held c = ap (heldFrom 0) (c .stored-channels .ensures .0) ∙ held-stored 0 (sta
 stored-count-requires : tie.Need-stored-count-requires
 stored-count-requires c κs = search needs
 
+signs-requires : tie.Need-signs-requires
+signs-requires c κs = search needs
+
 put-points-requires : tie.Need-put-points-requires
 put-points-requires c κs =
-    let n = c .before .before in
+    let g = c .before .before .before in
+    let n = g .before in
     let m = n .before in
     let f = m .before .before .before in
     let s = start f in
-    (m .stored-channels .ensures .1, n .stored-count .ensures .0, rw (held m) (s .pre .1 .amount), rw (held m) (s .pre .1 .fitting), rw (held m) (room-first _ _ (behind f)))
+    (m .stored-channels .ensures .1, g .signs .ensures, n .stored-count .ensures .0, rw (held m) (s .pre .1 .amount), rw (held m) (s .pre .1 .fitting), rw (held m) (room-first _ _ (behind f)))
 
 -- the points lie behind the front
 module _ (c : tie.After-put-points) where
   abbrev marked : tie.After-stored-channels
-  marked = c .before .before .before .before
+  marked = c .before .before .before .before .before .before
 
   abbrev fronted : tie.After-put-front
   fronted = marked .before .before .before
@@ -92,4 +96,4 @@ returns c =
 pub put-record-spec : {M : Type 1} → statement M
 put-record-spec =
     tie.close
-    (tie.spec put-front-requires stored-channels-requires stored-count-requires put-points-requires put-extension-requires same-length returns)
+    (tie.spec put-front-requires stored-channels-requires stored-count-requires signs-requires put-points-requires put-extension-requires same-length returns)

@@ -1,54 +1,46 @@
--- `records::sample_fits` meets its contract: a number fits where something is stored for it.
+-- `records::sample_fits` meets its contract: a number fits where it is between the two ends of its channel's range.
 use mathlib.Core.Path.{_≡_, sym, ap, _∙_}
-use mathlib.Core.Logic.{⊎-elim}
-use mir.Syntax.{w32}
-use mir.ValLaws.{toZ-ofZ}
-use Rattle.channels.specs.Channel.{widthOf}
-use Rattle.records.proofs.Laying.{sampleStored, stored-switch, stored-wide, sample-found, sample-outside}
 use borrow.Author.Needs.{needs}
+use mir.Syntax.{w32}
+use mir.Val.{toZ, ofZ}
+use mir.ValLaws.{toZ-ofZ}
+use Rattle.channels.specs.Channel.{widthOf, signedOf}
+use Rattle.channels.specs.Stored.{valueOf}
+use Rattle.records.proofs.Laying.{sign-lent, switch-fits, other-fits}
 use Rattle.records.proofs.sample_fits.Statement.{statement}
 use Rattle.records.proofs.sample_fits.Tie as tie
 
-byte-of-requires : tie.Need-byte-of-requires
-byte-of-requires c κs = search needs
-
-is-signed-requires : tie.Need-is-signed-requires
-is-signed-requires c κs = search needs
-
-stored-of-requires : tie.Need-stored-of-requires
-stored-of-requires c κs = search needs
-
-enum-told : tie.Need-enum-told
-enum-told c = search needs
-
-enum-told-2 : tie.Need-enum-told-2
-enum-told-2 c = search needs
-
--- what either call answered
-held : (c : tie.Joined1) → c .if1 .stored ≡ sampleStored (c .before .args .channel) (c .before .args .value)
-unfolding widthOf
-held c =
-    let a = c .before .args in
-    let z = toZ-ofZ w32 (a .value) (search needs) in
-    ⊎-elim
-    (λ w. w .2 ∙ w .1 .ensures ∙ rw z (sym (stored-switch (a .channel) (a .value) (w .0 .taken))))
-    (λ w. w .3 ∙ w .2 .ensures ∙ rw (z, w .1 .ensures) (sym (stored-wide (a .channel) (a .value) (w .0 .left))))
-    (c .if1 .came)
-
 returns : tie.Need-returns
-returns c = sym (sample-found _ _ (sym (held (c .before .before)) ∙ c .enum-told .given .1))
+returns c = let s = c .before in rw (toZ-ofZ w32 (s .args .value) (s .fits .value)) (sym (switch-fits _ _ (c .if1 .taken)))
+
+element-copy-out-signed : tie.Need-element-copy-out-signed
+element-copy-out-signed c = search needs
+
+value-of-requires : tie.Need-value-of-requires
+value-of-requires c κs = search needs
+
+value-of-requires-2 : tie.Need-value-of-requires-2
+value-of-requires-2 c κs = search needs
+
+-- the ends as the machine has them
+module _ (c : tie.After-value-of2) where
+  abbrev start : tie.Start
+  start = c .before .before .before .before
+
+  least : toZ w32 (ofZ w32 (c .before .value-of .result)) ≡ valueOf 2 (signedOf (start .args .channel)) 0
+  unfolding widthOf
+  least = toZ-ofZ w32 (c .before .value-of .result) (search needs) ∙ c .before .value-of .ensures ∙ ap (λ signed. valueOf 2 signed 0) (sign-lent _ (start .pre .1) (start .args .channel))
+
+  most : toZ w32 (ofZ w32 (c .value-of2 .result)) ≡ valueOf 2 (signedOf (start .args .channel)) 65535
+  unfolding widthOf
+  most = toZ-ofZ w32 (c .value-of2 .result) (search needs) ∙ c .value-of2 .ensures ∙ ap (λ signed. valueOf 2 signed 65535) (sign-lent _ (start .pre .1) (start .args .channel))
 
 returns-2 : tie.Need-returns-2
-returns-2 c = sym (sample-outside _ _ (sym (held (c .before .before)) ∙ c .enum-told2 .given .1))
+returns-2 c =
+    let s = start c in
+    rw (least c, most c, toZ-ofZ w32 (s .args .value) (s .fits .value)) (sym (other-fits _ _ (c .before .before .before .if1 .left)))
 
 pub sample-fits-spec : {M : Type 1} → statement M
 sample-fits-spec =
     tie.close
-    (tie.spec
-    byte-of-requires
-    is-signed-requires
-    stored-of-requires
-    enum-told
-    enum-told-2
-    returns
-    returns-2)
+    (tie.spec returns element-copy-out-signed value-of-requires value-of-requires-2 returns-2)

@@ -5,14 +5,11 @@ use lib.IntN.{natAbs, _+ℤ_, _-ℤ_}
 use mir.Syntax.{w32}
 use mir.Val.{toZ, ofZ}
 use mir.ValLaws.{toZ-ofZ}
-use Rattle.channels.specs.Channel.{widthOf, signedOf}
+use Rattle.channels.specs.Channel.{widthOf}
 use Rattle.channels.specs.Stored.{offset, valueOf, storedOf}
 use Rattle.records.proofs.Laying.{above-least, above-fits}
 use Rattle.records.proofs.stored_number.Statement.{statement}
 use Rattle.records.proofs.stored_number.Tie as tie
-
-is-signed-requires : tie.Need-is-signed-requires
-is-signed-requires c κs = search needs
 
 value-of-requires : tie.Need-value-of-requires
 value-of-requires c κs = search needs
@@ -20,14 +17,14 @@ value-of-requires c κs = search needs
 -- the difference as the machine has it
 module _ (c : tie.After-value-of) where
   abbrev start : tie.Start
-  start = c .before .before
+  start = c .before
 
-  least : toZ w32 (ofZ w32 (c .value-of .result)) ≡ valueOf 2 (signedOf (start .args .channel)) 0
+  least : toZ w32 (ofZ w32 (c .value-of .result)) ≡ valueOf 2 (start .args .signed) 0
   unfolding widthOf
-  least = toZ-ofZ w32 (c .value-of .result) (search needs) ∙ c .value-of .ensures ∙ ap (λ signed. valueOf 2 signed 0) (c .before .is-signed .ensures)
+  least = toZ-ofZ w32 (c .value-of .result) (search needs) ∙ c .value-of .ensures
 
-  above : toZ w32 (ofZ w32 (start .args .value)) -ℤ toZ w32 (ofZ w32 (c .value-of .result)) ≡ start .args .value +ℤ offset 2 (signedOf (start .args .channel))
-  above = rw (toZ-ofZ w32 (start .args .value) (start .fits .value), least) (above-least (signedOf (start .args .channel)) (start .args .value))
+  above : toZ w32 (ofZ w32 (start .args .value)) -ℤ toZ w32 (ofZ w32 (c .value-of .result)) ≡ start .args .value +ℤ offset 2 (start .args .signed)
+  above = rw (toZ-ofZ w32 (start .args .value) (start .fits .value), least) (above-least (start .args .signed) (start .args .value))
 
 sub-result : tie.Need-sub-result
 sub-result c = rw (above c) (above-fits _ _ (start c .pre) .0)
@@ -41,4 +38,4 @@ returns c = rw (above c) (ap natAbs (toZ-ofZ w32 _ (above-fits _ _ (start c .pre
 
 pub stored-number-spec : {M : Type 1} → statement M
 stored-number-spec =
-    tie.close (tie.spec is-signed-requires value-of-requires sub-result cast-result returns)
+    tie.close (tie.spec value-of-requires sub-result cast-result returns)

@@ -12,23 +12,23 @@ use Rattle.records.proofs.values_fit.Statement.{statement}
 use Rattle.records.proofs.values_fit.Tie as tie
 
 abbrev Inv-loop : tie.InvT-loop
-Inv-loop values n size held from₀ i₀ from i = (i ≤ n) × (from + (n - i) * length (heldFrom 0 held) ≡ length values) × (fitsRow (heldFrom 0 held) n values ≡ rowFitting (heldFrom 0 held) values n i from)
+Inv-loop values n size held signs from₀ i₀ from i = (i ≤ n) × (from + (n - i) * length (heldFrom 0 held) ≡ length values) × (fitsRow (heldFrom 0 held) n values ≡ rowFitting (heldFrom 0 held) values n i from)
 
 abbrev μ-loop : tie.MeasureT-loop
-μ-loop values n size held from₀ i₀ from i = n - i
+μ-loop values n size held signs from₀ i₀ from i = n - i
 
 returns : tie.Need-returns Inv-loop μ-loop
-returns c = sym (fits-nothing _ (sym (c .before .pre .1) ∙ c .if1 .taken) _ _)
+returns c = sym (fits-nothing _ (sym (c .before .pre .2) ∙ c .if1 .taken) _ _)
 
 loop-holds : tie.Need-loop-holds Inv-loop μ-loop
 unfolding rowFitting
-loop-holds c = (omega arith, simp sub-zero (omega (arith, c .before .pre .2)), simp sub-zero)
+loop-holds c = (omega arith, simp sub-zero (omega (arith, c .before .pre .3)), simp sub-zero)
 
 point-fits-requires : tie.Need-point-fits-requires Inv-loop μ-loop
 point-fits-requires c κs =
     let l = c .before in
     let a = l .before .before .args in
-    (l .before .before .pre .0, omega (arith, l .loop .inv .1, row-many (heldFrom 0 (a .held .now)) (a .values .now) (a .n) (l .loop .i) (c .loop-test .taken)))
+    (l .before .before .pre .0, l .before .before .pre .1, omega (arith, l .loop .inv .1, row-many (heldFrom 0 (a .held .now)) (a .values .now) (a .n) (l .loop .i) (c .loop-test .taken)))
 
 returns-2 : tie.Need-returns-2 Inv-loop μ-loop
 returns-2 c =
@@ -42,7 +42,7 @@ add-from : tie.Need-add-from Inv-loop μ-loop
 add-from c =
     let l = c .before .before .before in
     let a = l .before .before .args in
-    omega (arith, l .before .before .pre .1, l .loop .inv .1, row-many (heldFrom 0 (a .held .now)) (a .values .now) (a .n) (l .loop .i) (c .before .before .loop-test .taken))
+    omega (arith, l .before .before .pre .2, l .loop .inv .1, row-many (heldFrom 0 (a .held .now)) (a .values .now) (a .n) (l .loop .i) (c .before .before .loop-test .taken))
 
 add-i : tie.Need-add-i Inv-loop μ-loop
 add-i c = omega arith
@@ -55,7 +55,7 @@ loop-again c =
     let p = c .before in
     let l = p .before .before in
     let a = l .before .before .args in
-    rw (l .before .before .pre .1) (
+    rw (l .before .before .pre .2) (
       omega arith,
       omega (arith, l .loop .inv .1, row-many (heldFrom 0 (a .held .now)) (a .values .now) (a .n) (l .loop .i) (p .before .loop-test .taken)),
       l .loop .inv .2
