@@ -1,9 +1,11 @@
 -- Code that writes: strings laid into a lent slice one behind the other, and where each ends.
 use mathlib.Core.Path.{_≡_, refl, sym, ap, _∙_}
 use mathlib.Core.List.{List, [], _∷_, _++_}
-use Prim.Native.Nat.{ℕ, _+_, _≤_}
+use Prim.Native.Nat.{ℕ, _+_, _≤_, _<_}
+use native.Mathlib.Numerals.{add-one}
 use native.Mathlib.Omega.{arith}
-use lib.ListN.{length, set, length-append}
+use lib.ListN.{length, drop, getD, set, length-append, drop-of-length-le}
+use lib.Seq.{drop-cons}
 use Rattle.formats.specs.Put.{puts, length-puts, puts-append}
 
 -- there is room for b in s from a place on
@@ -66,3 +68,22 @@ module _ {s : List ℕ} {start : ℕ} {b t : List ℕ} {at : ℕ} where
   pub owed-none : Owed s start b t at [] → Laid s start b t at
   unfolding puts
   owed-none o = record { place = omega (arith, o .place); bytes = sym (o .bytes) }
+
+-- ---- A string that a loop copies, byte by byte
+
+-- its first i bytes are laid
+abbrev pub Copied : (s : List ℕ) (start : ℕ) (b t : List ℕ) (i : ℕ) → Type 0
+Copied s start b t i = Owed s start b t (start + i) (drop i b)
+
+pub copied-none : (s : List ℕ) (start : ℕ) (b : List ℕ) → Copied s start b s 0
+copied-none s start b = let z : start + 0 ≡ start = omega arith in rw z (owed-all s start b)
+
+module _ {s : List ℕ} (start : ℕ) (b : List ℕ) {t : List ℕ} (i : ℕ) where
+  pub copied-next : i < length b → Copied s start b t i → Copied s start b (set t (start + i) (getD b i 0)) (i + 1)
+  copied-next h o =
+      let e : drop i b ≡ (getD b i 0 ∷ []) ++ drop (i + 1) b = rw add-one (drop-cons b i 0 h) in
+      let z : start + i + 1 ≡ start + (i + 1) = omega arith in
+      rw (← z) (owed-next (rw e at o) (laid-byte t (start + i) refl))
+
+  pub copied-all : length b ≤ i → Copied s start b t i → Laid s start b t (start + i)
+  copied-all h o = owed-none (rw (drop-of-length-le b {i = i} h) at o)

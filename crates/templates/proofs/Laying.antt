@@ -1,5 +1,5 @@
--- What code lays down for a template: a number in its fewest bytes, and a field as its head and its content.
-use mathlib.Core.Path.{_≡_, ap}
+-- What code lays down for a template: a number in its fewest bytes, a field as its head and its content, and the whole from the bytes of a description.
+use mathlib.Core.Path.{_≡_, refl}
 use mathlib.Core.Bool.{Bool, true, false}
 use mathlib.Core.List.{List, [], _∷_, _++_}
 use Prim.Native.Nat.{ℕ, _+_, _/_, _%_, _≤_, _<_}
@@ -9,16 +9,16 @@ use lib.ListN.{length, drop, length-append}
 use Rattle.formats.specs.Laid.{Room, Laid, laid-more, room-first, room-rest}
 use Rattle.formats.specs.Put.{puts, puts-is}
 use Rattle.formats.specs.Number.{digits, length-digits}
-use Rattle.formats.specs.Lent.{writing}
+use Rattle.formats.specs.Lent.{Writing, writing}
 use Rattle.channels.specs.declared.Description.{Description}
 use Rattle.descriptions.specs.Description.{encodeDescription}
 use Rattle.descriptions.specs.Write.{flawOf}
-use Rattle.descriptions.specs.declared.Written.{Written}
-use Rattle.descriptions.specs.declared.Written.the-variants.{Done}
+use Rattle.descriptions.specs.declared.Flaw.{Flaw}
+use Rattle.descriptions.specs.declared.Flaw.the-variants as flaw
+use Rattle.templates.specs.declared.Written.{Written}
 use Rattle.templates.specs.Template.{field, fewest, shortest, encodeDescribed, encodeLimited, encode}
-use Rattle.templates.specs.Reading.{saying}
 use Rattle.templates.specs.Encoded.{one-byte, two-bytes, three-bytes}
-use Rattle.templates.specs.Writing.{flawIf}
+use Rattle.templates.specs.Writing.{flawIf, unflawed, writeOf, byFlaw, describedBytes, templateBytes, writeFields}
 
 -- ---- A number
 
@@ -58,18 +58,14 @@ module _ {s : List ℕ} {at : ℕ} (tag : ℕ) (content : List ℕ) {size : ℕ}
     field-laid k = laid-more (rw e at l) k
 
 -- one that is wanted, and one that isn't
-module _ (described : Bool) (d : Description) where
-  pub described-none : described ≡ false → encodeDescribed described d ≡ []
-  unfolding encodeDescribed
+module _ (described : Bool) (b : List ℕ) where
+  pub described-none : described ≡ false → describedBytes described b ≡ []
+  unfolding describedBytes
   described-none e = rw e
 
-  pub described-field : described ≡ true → encodeDescribed described d ≡ field 0x81 (encodeDescription 1 d)
-  unfolding encodeDescribed
+  pub described-field : described ≡ true → describedBytes described b ≡ field 0x81 b
+  unfolding describedBytes
   described-field e = rw e
-
-  pub described-flaw : described ≡ true → flawIf described d ≡ flawOf 1 d
-  unfolding flawIf
-  described-flaw e = rw e
 
 module _ (limited : Bool) (n : ℕ) where
   pub limited-none : limited ≡ false → encodeLimited limited n ≡ []
@@ -80,18 +76,36 @@ module _ (limited : Bool) (n : ℕ) where
   unfolding encodeLimited
   limited-field e = rw e
 
--- ---- A description that was put
-
-pub put-laid : (t : List ℕ) (m : ℕ) (b : List ℕ) {answer : Written} {u : List ℕ} {n : ℕ} → writing answer u ≡ writing (Done (m + length b)) (puts t m b) → answer ≡ Done n → Laid t m b u n
-put-laid t m b e q = let a = ap (λ p. p .answer) e in record { place = cc; bytes = ap (λ p. p .bytes) e }
-
 -- ---- The whole
 
-pub template-length : (described : Bool) (d : Description) (limited : Bool) (n : ℕ)
-    → length (encode (saying described d limited n)) ≡ 2 + (length (encodeDescribed described d) + length (encodeLimited limited n))
-unfolding encode
-template-length described d limited n = omega (arith, length-append (encodeDescribed described d) (encodeLimited limited n))
+pub template-length : (described : Bool) (b : List ℕ) (limited : Bool) (n : ℕ)
+    → length (templateBytes described b limited n) ≡ 2 + (length (describedBytes described b) + length (encodeLimited limited n))
+unfolding templateBytes
+template-length described b limited n = omega (arith, length-append (describedBytes described b) (encodeLimited limited n))
 
 -- bytes that were put at the start come first
 pub put-first : (s b : List ℕ) → length b ≤ length s → puts s 0 b ≡ b ++ drop (length b) s
 put-first s b h = rw zero-add at (puts-is s 0 b (omega arith))
+
+-- ---- How the description was put aside, and what is written then
+
+refusal : (f : Flaw) (out : List ℕ) (rest : Writing Written) → (f ≡ flaw.None → ⊥) → writing (byFlaw f) out ≡ unflawed f out rest
+unfolding unflawed
+refusal flaw.None out rest h = absurd (h refl)
+refusal flaw.XOrY out rest h = refl
+refusal flaw.Untidy out rest h = refl
+refusal flaw.OutOfRange out rest h = refl
+
+module _ (described : Bool) (d : Description) (limited : Bool) (n : ℕ) (out : List ℕ) where
+  pub unwanted-written : described ≡ false → (b : List ℕ) → writeFields false b limited n out ≡ writeOf described d limited n out
+  unfolding writeFields templateBytes describedBytes writeOf flawIf unflawed encode encodeDescribed
+  unwanted-written e b = rw e
+
+  module _ (e : described ≡ true) where
+    pub flawless-written : (b : List ℕ) → b ≡ encodeDescription 1 d → flawOf 1 d ≡ flaw.None → writeFields true b limited n out ≡ writeOf described d limited n out
+    unfolding writeFields templateBytes describedBytes writeOf flawIf unflawed encode encodeDescribed
+    flawless-written b q f = rw (e, q, f)
+
+    pub flawed-written : (flawOf 1 d ≡ flaw.None → ⊥) → writing (byFlaw (flawOf 1 d)) out ≡ writeOf described d limited n out
+    unfolding writeOf flawIf
+    flawed-written h = rw e (refusal (flawOf 1 d) out _ h)

@@ -1,6 +1,6 @@
 -- What writing a template answers, and what becomes of the bytes that it was lent.
 use mathlib.Core.Bool.{Bool, true, false, cond, _&&_}
-use mathlib.Core.List.{List, _++_}
+use mathlib.Core.List.{List, [], _++_}
 use Prim.Native.Nat.{ℕ}
 use lib.Dec.{leb, ltb}
 use lib.ListN.{length, drop}
@@ -11,7 +11,7 @@ use Rattle.descriptions.specs.declared.Flaw.{Flaw}
 use Rattle.descriptions.specs.declared.Flaw.the-variants as flaw
 use Rattle.templates.specs.declared.Written.{Written}
 use Rattle.templates.specs.declared.Written.the-variants.{Done, XOrY, Untidy, OutOfRange, NoRoom}
-use Rattle.templates.specs.Template.{encode}
+use Rattle.templates.specs.Template.{field, encodeLimited, encode}
 use Rattle.templates.specs.Reading.{saying}
 
 -- the number of a refusal in document 01, and 0 for a template
@@ -48,3 +48,26 @@ writeOf described d limited maximum out =
     unflawed (flawIf described d) out
     (cond (exceeds limited maximum) (writing OutOfRange out)
     (inRoom (encode (saying described d limited maximum)) out))
+
+-- ---- The parts, from the bytes of the description
+
+-- the refusal of one that has a flaw
+abbrev pub byFlaw : Flaw → Written
+byFlaw flaw.None = NoRoom
+byFlaw flaw.XOrY = XOrY
+byFlaw flaw.Untidy = Untidy
+byFlaw flaw.OutOfRange = OutOfRange
+
+-- 81, where it is wanted
+unfoldable pub describedBytes : (described : Bool) (bytes : List ℕ) → List ℕ
+describedBytes true bytes = field 0x81 bytes
+describedBytes false bytes = []
+
+-- the whole template
+unfoldable pub templateBytes : (described : Bool) (bytes : List ℕ) (limited : Bool) (maximum : ℕ) → List ℕ
+templateBytes described bytes limited maximum = field 0xB1 (describedBytes described bytes ++ encodeLimited limited maximum)
+
+-- the maximum, and then the room
+unfoldable pub writeFields : (described : Bool) (bytes : List ℕ) (limited : Bool) (maximum : ℕ) (out : List ℕ) → Writing Written
+writeFields described bytes limited maximum out =
+    cond (exceeds limited maximum) (writing OutOfRange out) (inRoom (templateBytes described bytes limited maximum) out)

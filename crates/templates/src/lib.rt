@@ -11,11 +11,10 @@ ghost use lib.ListN.{length, take, drop};
 ghost use Rattle.formats.specs.Number.{value};
 ghost use Rattle.formats.specs.Laid.{Room, Laid};
 ghost use Rattle.formats.specs.Lent.{writing};
-ghost use Rattle.templates.specs.Template.{fewest, shortest, encodeDescribed, encodeLimited, encode};
+ghost use Rattle.templates.specs.Template.{fewest, shortest, encodeLimited};
 ghost use Rattle.templates.specs.Reading.{numberOf, saying, accepted, refused, endOf, isShortest, limitedBy, limitedFrom, limitOf, filled, describedBy, contentOf, templateOf};
-ghost use Rattle.templates.specs.Writing.{writtenNumber, flawIf, exceeds, inRoom, writeOf};
+ghost use Rattle.templates.specs.Writing.{writtenNumber, byFlaw, exceeds, describedBytes, templateBytes, writeFields, writeOf};
 ghost use Rattle.descriptions.specs.Read.{nothing};
-ghost use Rattle.descriptions.specs.declared.Flaw.the-variants as flaw;
 
 // What a template says: a description of channels if it has one, and the largest number of points if it names one.
 // What it doesn't have is zeros here.
@@ -312,14 +311,16 @@ pub fn written_number(written: Written) -> u8
     }
 }
 
-// The first flaw of the description, where one is wanted.
-fn flaw_if(described: bool, description: Description) -> Flaw
-    ensures { λ r. ⌜ r ≡ flawIf described description ⌝ }
+// The refusal of a description that has this flaw.
+fn flawed(flaw: Flaw) -> Written
+    ensures { λ r. ⌜ r ≡ byFlaw flaw ⌝ }
 {
-    if !described {
-        return Flaw::None;
+    match flaw {
+        Flaw::None => Written::NoRoom, // not asked of one without a flaw
+        Flaw::XOrY => Written::XOrY,
+        Flaw::Untidy => Written::Untidy,
+        Flaw::OutOfRange => Written::OutOfRange,
     }
-    descriptions::flaw_of(description, Format::Compact)
 }
 
 // Three bytes don't hold the maximum that is wanted.
@@ -342,14 +343,15 @@ fn fewest(number: u32) -> usize
     3
 }
 
-// How many bytes the field 81 has.
-fn described_size(described: bool, description: Description) -> usize
-    ensures { λ r. ⌜ (r ≡ length (encodeDescribed described description)) × (r ≤ 116) ⌝ }
+// How many bytes the field 81 has, from the bytes of the description.
+fn described_size(described: bool, bytes: &[u8]) -> usize
+    requires { ⌜ length (now bytes) ≤ 114 ⌝ }
+    ensures { λ r. ⌜ (r ≡ length (describedBytes described (now (bytes .entry)))) × (r ≤ 116) ⌝ }
 {
     if !described {
         return 0;
     }
-    2 + descriptions::size(description, Format::Compact)
+    2 + bytes.len()
 }
 
 // How many bytes the field 82 has.
@@ -404,26 +406,29 @@ fn put_limited(out: &mut [u8], at: usize, limited: bool, maximum: u32) -> usize
     put_shortest(out, start, maximum)
 }
 
-// The field 81, where it is wanted.
-fn put_described(out: &mut [u8], at: usize, described: bool, description: Description) -> usize
-    requires { ⌜ (flawIf described description ≡ flaw.None) × Room (now out) at (encodeDescribed described description) ⌝ }
-    ensures { λ r. ⌜ Laid (now (out .entry)) at (encodeDescribed described description) (now (out .exit)) r ⌝ }
+// Bytes are put as they are.
+fn put_bytes(out: &mut [u8], start: usize, bytes: &[u8]) -> usize
+    requires { ⌜ Room (now out) start (now bytes) ⌝ }
+    ensures { λ r. ⌜ Laid (now (out .entry)) start (now (bytes .entry)) (now (out .exit)) r ⌝ }
+{
+    let mut i: usize = 0;
+    while i < bytes.len() {
+        out[start + i] = bytes[i];
+        i += 1;
+    }
+    start + i
+}
+
+// The field 81, where it is wanted, from the bytes of the description.
+fn put_described(out: &mut [u8], at: usize, described: bool, bytes: &[u8]) -> usize
+    requires { ⌜ (length (now bytes) ≤ 114) × Room (now out) at (describedBytes described (now bytes)) ⌝ }
+    ensures { λ r. ⌜ Laid (now (out .entry)) at (describedBytes described (now (bytes .entry))) (now (out .exit)) r ⌝ }
 {
     if !described {
         return at;
     }
-    let start = put_head(
-        out,
-        at,
-        0x81,
-        descriptions::size(description, Format::Compact),
-    );
-    match descriptions::put(out, start, description, Format::Compact) {
-        descriptions::Written::Done(end) => end,
-        // Neither comes about: there is no flaw, and there is room.
-        descriptions::Written::Flawed(_) => start,
-        descriptions::Written::NoRoom => start,
-    }
+    let start = put_head(out, at, 0x81, bytes.len());
+    put_bytes(out, start, bytes)
 }
 
 // The whole template, from the output's start on.
@@ -431,39 +436,43 @@ fn put_template(
     out: &mut [u8],
     size: usize,
     described: bool,
-    description: Description,
+    bytes: &[u8],
     limited: bool,
     maximum: u32,
 ) -> usize
-    requires { ⌜ (size < 128) × (flawIf described description ≡ flaw.None) × Room (now out) 0 (encode (saying described description limited maximum)) × (size ≡ length (encodeDescribed described description ++ encodeLimited limited maximum)) ⌝ }
-    ensures { λ r. ⌜ Laid (now (out .entry)) 0 (encode (saying described description limited maximum)) (now (out .exit)) r ⌝ }
+    requires { ⌜ (size < 128) × (length (now bytes) ≤ 114) × Room (now out) 0 (templateBytes described (now bytes) limited maximum) × (size ≡ length (describedBytes described (now bytes) ++ encodeLimited limited maximum)) ⌝ }
+    ensures { λ r. ⌜ Laid (now (out .entry)) 0 (templateBytes described (now (bytes .entry)) limited maximum) (now (out .exit)) r ⌝ }
 {
     let inside = put_head(out, 0, 0xB1, size);
-    let at = put_described(out, inside, described, description);
+    let at = put_described(out, inside, described, bytes);
     put_limited(out, at, limited, maximum)
 }
 
-// The template is written where there is room for it, and nothing is where there isn't.
-fn write_in_room(
+// The stages behind the description's, from its bytes: the maximum and the room; then the template is put.
+fn write_fields(
     described: bool,
-    description: Description,
+    bytes: &[u8],
     limited: bool,
     maximum: u32,
     out: &mut [u8],
 ) -> Written
-    requires { ⌜ flawIf described description ≡ flaw.None ⌝ }
-    ensures { λ r. ⌜ writing r (now (out .exit)) ≡ inRoom (encode (saying described description limited maximum)) (now (out .entry)) ⌝ }
+    requires { ⌜ length (now bytes) ≤ 114 ⌝ }
+    ensures { λ r. ⌜ writing r (now (out .exit)) ≡ writeFields described (now (bytes .entry)) limited maximum (now (out .entry)) ⌝ }
 {
-    let size = described_size(described, description) + limited_size(limited, maximum);
+    if exceeds(limited, maximum) {
+        return Written::OutOfRange;
+    }
+    let size = described_size(described, bytes) + limited_size(limited, maximum);
     if out.len() < 2 + size {
         return Written::NoRoom;
     }
-    let end = put_template(out, size, described, description, limited, maximum);
+    let end = put_template(out, size, described, bytes, limited, maximum);
     Written::Done(end)
 }
 
 // A template of what is wanted is written at the output's start; what isn't wanted isn't looked at.
 // On a refusal the output is as it was.
+// The description is put aside first, which judges it: so it is judged once.
 pub fn write(
     described: bool,
     description: Description,
@@ -473,15 +482,16 @@ pub fn write(
 ) -> Written
     ensures { λ r. ⌜ writing r (now (out .exit)) ≡ writeOf described description limited maximum (now (out .entry)) ⌝ }
 {
-    match flaw_if(described, description) {
-        Flaw::XOrY => Written::XOrY,
-        Flaw::Untidy => Written::Untidy,
-        Flaw::OutOfRange => Written::OutOfRange,
-        Flaw::None => {
-            if exceeds(limited, maximum) {
-                return Written::OutOfRange;
-            }
-            write_in_room(described, description, limited, maximum, out)
+    let mut room: [u8; 114] = [0; 114]; // two inclusion bytes, and seven for each of sixteen channels
+    if !described {
+        return write_fields(false, &room[0..0], limited, maximum, out);
+    }
+    match descriptions::put(&mut room, 0, description, Format::Compact) {
+        descriptions::Written::Done(end) => {
+            let bytes = &room[0..end];
+            write_fields(true, bytes, limited, maximum, out)
         }
+        descriptions::Written::Flawed(flaw) => flawed(flaw),
+        descriptions::Written::NoRoom => Written::NoRoom, // never: no description is longer
     }
 }

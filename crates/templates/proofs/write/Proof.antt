@@ -1,78 +1,137 @@
--- `templates::write` meets its contract: the description's flaw, the maximum and the room, each before the next.
-use mathlib.Core.Path.{_≡_, sym, _∙_}
+-- `templates::write` meets its contract: whether a description is wanted, and how it was put aside, decides whether the template is written.
+use mathlib.Core.Path.{_≡_, sym, ap, _∙_}
+use mathlib.Core.Bool.{true}
+use Prim.Native.Nat.{_≤_}
+use native.Mathlib.Omega.{arith}
 use borrow.Author.Needs.{needs}
-use Rattle.templates.specs.Writing.{flawIf, unflawed, writeOf}
+use borrow.Author.Tests.{not-true, not-false}
+use lib.ListN.{replicate, length}
+use Rattle.formats.specs.Lent.{writing}
+use Rattle.channels.specs.Channel.{widthOf}
+use Rattle.descriptions.specs.Description.{encodeDescription}
+use Rattle.descriptions.specs.Write.{putIf}
+use Rattle.descriptions.specs.Size.{description-size}
+use Rattle.descriptions.specs.Aside.{aside-done, aside-flawed, aside-room}
+use Rattle.templates.specs.Writing.{byFlaw}
+use Rattle.templates.proofs.Laying.{unwanted-written, flawless-written, flawed-written}
 use Rattle.templates.proofs.write.Statement.{statement}
 use Rattle.templates.proofs.write.Tie as tie
 
--- the flaw that was found is the definition's
-found : (m : tie.After-flaw-if) → flawIf (m .before .before .args .described) (m .before .before .args .description) ≡ m .flaw-if .result
-found m = sym (m .flaw-if .ensures)
+sub-write-fields : tie.Need-sub-write-fields
+sub-write-fields c = search needs
 
-flaw-if-requires : tie.Need-flaw-if-requires
-flaw-if-requires c κs = search needs
+part-write-fields-start : tie.Need-part-write-fields-start
+part-write-fields-start c = search needs
 
-enum-told : tie.Need-enum-told
-enum-told c = search needs
+part-write-fields-end : tie.Need-part-write-fields-end
+part-write-fields-end c = search needs
 
-enum-told-2 : tie.Need-enum-told-2
-enum-told-2 c = search needs
-
-enum-told-3 : tie.Need-enum-told-3
-enum-told-3 c = search needs
-
-enum-told-4 : tie.Need-enum-told-4
-enum-told-4 c = search needs
-
-exceeds-requires : tie.Need-exceeds-requires
-exceeds-requires c κs = search needs
-
-returns : tie.Need-returns
-unfolding writeOf unflawed
-returns c =
-    let e = c .before .before in
-    rw (found (e .before .before) ∙ e .enum-told4 .given .1, sym (c .before .exceeds .ensures) ∙ c .if1 .taken)
-
-write-in-room-requires : tie.Need-write-in-room-requires
-write-in-room-requires c κs = let e = c .before .before .before in found (e .before .before) ∙ e .enum-told4 .given .1
-
-returns-2 : tie.Need-returns-2
-unfolding writeOf unflawed
-returns-2 c = rw (found (c .before .before) ∙ c .enum-told .given .1)
-
-returns-3 : tie.Need-returns-3
-unfolding writeOf unflawed
-returns-3 c = rw (found (c .before .before) ∙ c .enum-told2 .given .1)
-
-returns-4 : tie.Need-returns-4
-unfolding writeOf unflawed
-returns-4 c = rw (found (c .before .before) ∙ c .enum-told3 .given .1)
+write-fields-requires : tie.Need-write-fields-requires
+write-fields-requires c κs = search needs
 
 same-length : tie.Need-same-length
 same-length c = search needs
 
-returns-5 : tie.Need-returns-5
-unfolding writeOf unflawed
-returns-5 c =
-    let p = c .before .before in
-    let q = p .before .before in
-    let e = q .before .before in
-    p .write-in-room .ensures ∙ rw (found (e .before .before) ∙ e .enum-told4 .given .1, sym (q .before .exceeds .ensures) ∙ q .if1 .left)
+returns : tie.Need-returns
+returns c =
+    let w = c .before .before in
+    let t = w .before .before .before .before in
+    let a = t .before .before .args in
+    w .write-fields .ensures ∙ unwanted-written (a .described) (a .description) (a .limited) (a .maximum) (a .out .now) (not-true (a .described) (t .if1 .taken)) _
+
+slice-aggregate-put : tie.Need-slice-aggregate-put
+slice-aggregate-put c = search needs
+
+put-requires : tie.Need-put-requires
+put-requires c κs = search needs
+
+-- the description, put aside
+module _ (m : tie.After-put) where
+  abbrev start : tie.Start
+  start = m .before .before .before .before
+
+  is-wanted : start .args .described ≡ true
+  is-wanted = not-false (start .args .described) (m .before .before .if1 .left)
+
+  aside : writing (m .put .result) (m .put .last .0) ≡ putIf 1 (start .args .description) (replicate 114 0) 0
+  unfolding widthOf
+  aside = m .put .ensures
+
+  fits : length (encodeDescription 1 (start .args .description)) ≤ 114
+  fits = description-size 1 (start .args .description)
+
+enum-known-end : tie.Need-enum-known-end
+enum-known-end c = search needs
+
+sub-bytes : tie.Need-sub-bytes
+sub-bytes c = search needs
+
+part-bytes-start : tie.Need-part-bytes-start
+part-bytes-start c = search needs
+
+part-bytes-end : tie.Need-part-bytes-end
+part-bytes-end c = let e = c .before .before in let m = e .before .before .before in aside-done 1 _ _ _ _ (aside m) (fits m) (e .end .given .1) .1
+
+write-fields-requires-2 : tie.Need-write-fields-requires-2
+write-fields-requires-2 c κs =
+    let e = c .before .before .before .before in
+    let m = e .before .before .before in
+    omega (arith, fits m, ap length (aside-done 1 _ _ _ _ (aside m) (fits m) (e .end .given .1) .2))
+
+enum-known-flaw : tie.Need-enum-known-flaw
+enum-known-flaw c = search needs
+
+flawed-requires : tie.Need-flawed-requires
+flawed-requires c κs = search needs
+
+enum-told : tie.Need-enum-told
+enum-told c = search needs
+
+same-length-2 : tie.Need-same-length-2
+same-length-2 c = search needs
+
+returns-2 : tie.Need-returns-2
+returns-2 c =
+    let w = c .before .before in
+    let e = w .before .before .before .before .before in
+    let m = e .before .before .before in
+    let a = start m .args in
+    let f = aside-done 1 _ _ _ _ (aside m) (fits m) (e .end .given .1) in
+    w .write-fields2 .ensures ∙ flawless-written (a .described) (a .description) (a .limited) (a .maximum) (a .out .now) (is-wanted m) _ (f .2) (f .0)
+
+returns-3 : tie.Need-returns-3
+returns-3 c =
+    let e = c .before .before in
+    let m = e .before .before .before in
+    let a = start m .args in
+    let f = aside-flawed 1 _ _ _ _ (aside m) (fits m) (e .flaw .given .1) in
+    ap (λ w. writing w (a .out .now)) (c .flawed .ensures ∙ ap byFlaw (sym (f .0)))
+    ∙ flawed-written (a .described) (a .description) (a .limited) (a .maximum) (a .out .now) (is-wanted m) (f .1)
+
+returns-4 : tie.Need-returns-4
+returns-4 c = let m = c .before .before .before in absurd (aside-room 1 _ _ _ _ (aside m) (fits m) (c .enum-told .given .1))
 
 pub write-spec : {M : Type 1} → statement M
 write-spec =
     tie.close
     (tie.spec
-    flaw-if-requires
-    enum-told
-    enum-told-2
-    enum-told-3
-    enum-told-4
-    exceeds-requires
+    sub-write-fields
+    part-write-fields-start
+    part-write-fields-end
+    write-fields-requires
+    same-length
     returns
-    write-in-room-requires
+    slice-aggregate-put
+    put-requires
+    enum-known-end
+    sub-bytes
+    part-bytes-start
+    part-bytes-end
+    write-fields-requires-2
+    enum-known-flaw
+    flawed-requires
+    enum-told
+    same-length-2
     returns-2
     returns-3
-    returns-4
-    same-length
-    returns-5)
+    returns-4)
