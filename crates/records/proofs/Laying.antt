@@ -169,23 +169,6 @@ module _ (held : List Bool) (values : List ℤ) where
   unfolding left encodeEach
   left-none i j h = rw (held-none held i h)
 
--- ---- Which channels are stored, when the first i are marked
-
-module _ (held : List Bool) (ds : List Descriptor) where
-  unfoldable pub marking : ℕ → List Bool
-  marking i = take i held ++ map isStored (drop i ds)
-
-  pub marked-all : (i : ℕ) → length ds ≤ i → length held ≤ i → marking i ≡ held
-  unfolding marking
-  marked-all i h q = rw (drop-of-length-le ds {i = i} h, take-all i held q, append-nil)
-
-pub mark-next : (held : List Bool) (ds : List Descriptor) (i : ℕ) (t : Bool) → i < length held → i < length ds → t ≡ isStored (getD ds i absent)
-    → marking held ds i ≡ marking (set held i t) ds (i + 1)
-unfolding marking
-mark-next held ds i t q h e =
-    rw (add-one i, take-suc-set held i t q, drop-cons ds i absent h, e)
-    (sym (append-assoc (take i held) (isStored (getD ds i absent) ∷ []) (map isStored (drop (suc i) ds))))
-
 -- the numbers behind a point's own are not its
 encode-taken : (l : List ℕ) (vs : List ℤ) → encodeEach encodeSample l (take (length l) vs) ≡ encodeEach encodeSample l vs
 unfolding encodeEach

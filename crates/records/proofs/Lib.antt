@@ -3,6 +3,7 @@ pub mod Fronts
 pub mod Samples
 pub mod Walk
 pub mod Extension
+pub mod Marking
 pub mod Seats
 pub mod Verdicts
 pub mod Whole

@@ -15,7 +15,7 @@ use Rattle.channels.specs.declared.Descriptor.{Descriptor}
 use Rattle.channels.specs.declared.Description.{Description}
 use Rattle.channels.specs.declared.Place.{Place}
 use Rattle.channels.specs.declared.Place.the-variants.{Absent, Constant, Number}
-use Rattle.descriptions.specs.Description.{absent}
+use Rattle.descriptions.specs.Description.{absent, isStored}
 use Rattle.records.specs.Record.{sample, point, storedFrom, stored}
 use Rattle.records.specs.Places.{placesOf, places}
 use Rattle.records.specs.Points.{sampled, taken, seat, nowhere, placesAt}
@@ -87,13 +87,21 @@ module _ (s : List ℕ) (at channel : ℕ) (d : Descriptor) where
   unfolding seat
   seat-absent e = rw e (at-done Absent s at)
 
-  pub seat-constant : d .included ≡ true → d .constant ≡ true → readAt (seat channel d) s at ≡ ok Constant at
-  unfolding seat
-  seat-constant e g = rw (e, g) (at-done Constant s at)
+  -- of a channel that is included, not to be stored is to be constant
+  constant-is : (b : Bool) → d .included ≡ true → isStored d ≡ b → d .constant ≡ not b
+  constant-is b e g = go (d .constant) (rw e at g)
+    where
+      go : (a : Bool) → not a ≡ b → a ≡ not b
+      go true q = rw (← q)
+      go false q = rw (← q)
 
-  seat-number : d .included ≡ true → d .constant ≡ false → readAt (seat channel d) s at ≡ mapped Number (readAt (sample channel) s at)
+  pub seat-constant : d .included ≡ true → isStored d ≡ false → readAt (seat channel d) s at ≡ ok Constant at
   unfolding seat
-  seat-number e g = rw (e, g) (at-map Number (sample channel) s at)
+  seat-constant e g = rw (e, constant-is false e g) (at-done Constant s at)
+
+  seat-number : d .included ≡ true → isStored d ≡ true → readAt (seat channel d) s at ≡ mapped Number (readAt (sample channel) s at)
+  unfolding seat
+  seat-number e g = rw (e, constant-is true e g) (at-map Number (sample channel) s at)
 
   took : (x : Answer ℤ) {v : ℤ} {n : ℕ} → sampled x ≡ samples.Number v n → taken (mapped Number x) ≡ takes.Took (Number v) n
   unfolding sampled taken mapped
@@ -107,11 +115,11 @@ module _ (s : List ℕ) (at channel : ℕ) (d : Descriptor) where
   missing short e = refl
   missing (bad k p) e = refl
 
-  pub seat-took : {v : ℤ} {n : ℕ} → d .included ≡ true → d .constant ≡ false → sampled (readAt (sample channel) s at) ≡ samples.Number v n
+  pub seat-took : {v : ℤ} {n : ℕ} → d .included ≡ true → isStored d ≡ true → sampled (readAt (sample channel) s at) ≡ samples.Number v n
       → taken (readAt (seat channel d) s at) ≡ takes.Took (Number v) n
   seat-took e g h = ap taken (seat-number e g) ∙ took (readAt (sample channel) s at) h
 
-  pub seat-missing : d .included ≡ true → d .constant ≡ false → sampled (readAt (sample channel) s at) ≡ samples.Missing
+  pub seat-missing : d .included ≡ true → isStored d ≡ true → sampled (readAt (sample channel) s at) ≡ samples.Missing
       → taken (readAt (seat channel d) s at) ≡ takes.Missing
   seat-missing e g h = ap taken (seat-number e g) ∙ missing (readAt (sample channel) s at) h
 

@@ -2,19 +2,25 @@
 use mathlib.Core.Path.{_≡_, refl, sym, ap, _∙_}
 use mathlib.Core.Bool.{Bool, true, false}
 use mathlib.Core.List.{List, []}
+use mathlib.Core.List as list
 use Prim.Native.Nat.{ℕ, _+_, _-_, _*_, _≤_, _<_}
 use native.Mathlib.Nat.{mul-le-mul-right}
 use native.Mathlib.Omega.{arith}
 use lib.Dec.{ltb}
-use lib.ListN.{length, getD}
+use lib.ListN.{length, getD, replicate}
 use borrow.Author.Tests.{lt-ltb, le-ltb}
 use Rattle.formats.specs.Bytes.{impossible}
-use Rattle.formats.specs.Reader.{Answer, ok, short, bad, run, readAt}
+use Rattle.formats.specs.Reader.{Answer, ok, short, bad, run, readAt, each}
+use Rattle.formats.specs.Compose.{at-done}
+use Rattle.formats.specs.Told.{told}
 use Rattle.formats.specs.declared.Outcome.the-variants.{Done, Short, Bad}
 use Rattle.channels.specs.declared.Description.{Description}
-use Rattle.descriptions.specs.Description.{description}
-use Rattle.descriptions.specs.Read.{nothing, described}
-use Rattle.records.specs.Record.{Record, point, fullRecord, width}
+use Rattle.descriptions.specs.Description.{description, isStored}
+use Rattle.descriptions.specs.Read.{nothing, described, measured}
+use Rattle.descriptions.specs.declared.Measured.{Measured}
+use Rattle.records.specs.Front.{marks}
+use Rattle.records.specs.Record.{Record, stored, storedFrom, point, fullRecord, width}
+use Rattle.records.specs.Places.{places, placesOf}
 use Rattle.records.specs.Points.{placesAt, nowhere}
 use Rattle.formats.specs.Fixed.{fixed-times}
 use Rattle.records.specs.Nth.{fixed-point, nth-point}
@@ -28,6 +34,16 @@ use Rattle.records.specs.declared.Judged.{Judged}
 use Rattle.records.specs.declared.Verdict.{Verdict}
 use Rattle.records.specs.declared.Verdict.the-variants as verdict
 use Rattle.records.specs.declared.Pointed.the-variants as pointed
+
+-- a point is read by the flags of some description, from a place on
+abbrev pub Shown : List ℕ → ℕ → List Bool → List Bool → ℕ → Type 0
+Shown s index included stored start =
+    (d : Description) × (included ≡ list.map (λ c. c .included) (d .channels)) × (stored ≡ list.map isStored (d .channels)) × (placesAt d (readAt (point d) s start) ≡ placesIn index (run fullRecord s))
+
+-- no point is read as one of a description that says nothing
+pub shown-nowhere : (s : List ℕ) (index : ℕ) → nowhere ≡ placesIn index (run fullRecord s) → Shown s index (replicate 16 false) (replicate 16 false) 0
+unfolding nothing placesAt point stored storedFrom each places placesOf
+shown-nowhere s index e = (nothing, refl, refl, ap (placesAt nothing) (at-done [] s 0) ∙ e)
 
 module _ (s : List ℕ) (l : Layout) (e : l ≡ layoutOf s) where
   -- ---- A record
@@ -70,14 +86,9 @@ module _ (s : List ℕ) (l : Layout) (e : l ≡ layoutOf s) where
     unfolding pointedAt
     pointed-none index h = rw (read, le-ltb index (length (whole .points)) (omega (arith, laid .count)))
 
-    pub places-none : (index : ℕ) → l .count ≤ index → nowhere ≡ placesIn index (run fullRecord s)
+    pub shown-none : (index : ℕ) → l .count ≤ index → Shown s index (replicate 16 false) (replicate 16 false) 0
     unfolding placesIn
-    places-none index h = rw (read, le-ltb index (length (whole .points)) (omega (arith, laid .count)))
-
-    -- the description stands behind the identifier and the version
-    description-there : described (readAt (description 2) s 8) .description ≡ whole .description
-    unfolding described
-    description-there = ap (λ x. described x .description) (record-described s read .1)
+    shown-none index h = shown-nowhere s index (rw (read, le-ltb index (length (whole .points)) (omega (arith, laid .count))))
 
     module _ (index : ℕ) (h : index < l .count) where
       places-by : placesAt (whole .description) (readAt (point (whole .description)) s (l .points + index * width (whole .description))) ≡ placesIn index (run fullRecord s)
@@ -86,12 +97,14 @@ module _ (s : List ℕ) (l : Layout) (e : l ≡ layoutOf s) where
           ap (placesAt (whole .description)) (nth-point (whole .description) s (l .count) (l .points) (whole .points) (l .extension) (laid .within) (laid .points) index h)
           ∙ sym (rw (read, lt-ltb index (length (whole .points)) (omega (arith, laid .count))) refl)
 
-      pub places-there : (d : Description) → d ≡ described (readAt (description 2) s 8) .description
-          → placesAt d (readAt (point d) s (l .points + index * l .width)) ≡ placesIn index (run fullRecord s)
-      places-there d q =
-          ap (λ x. placesAt x (readAt (point x) s (l .points + index * l .width))) (q ∙ description-there)
-          ∙ ap (λ w. placesAt (whole .description) (readAt (point (whole .description)) s (l .points + index * w))) (laid .wide)
-          ∙ places-by
+      -- read by the flags that were measured, at the place of the layout
+      pub shown-there : (m : Measured) {at : ℕ} → told (run marks s) ≡ Done at → m ≡ measured (readAt (description 2) s at)
+          → Shown s index (m .included) (m .stored) (l .points + index * l .width)
+      unfolding measured
+      shown-there m place q =
+          let d = whole .description in
+          let x = q ∙ ap measured (record-described s place read .1) in
+          (d, ap (λ z. z .included) x, ap (λ z. z .stored) x, ap (λ w. placesAt d (readAt (point d) s (l .points + index * w))) (laid .wide) ∙ places-by)
 
       -- the point lies in the bytes
       pub point-within : l .points + index * l .width ≤ length s
@@ -106,6 +119,10 @@ module _ (s : List ℕ) (l : Layout) (e : l ≡ layoutOf s) where
     pub short-read : run fullRecord s ≡ short
     short-read = short-laid s l e o .0
 
+    pub shown-short : (index : ℕ) → Shown s index (replicate 16 false) (replicate 16 false) 0
+    unfolding placesIn
+    shown-short index = shown-nowhere s index (sym (ap (placesIn index) short-read))
+
     pub verdict-short : verdict.Short ≡ judged (run fullRecord s) .verdict
     unfolding judged
     verdict-short = sym (ap (λ x. judged x .verdict) short-read)
@@ -114,6 +131,10 @@ module _ (s : List ℕ) (l : Layout) (e : l ≡ layoutOf s) where
     pub bad-read : run fullRecord s ≡ bad k p
     bad-read = bad-laid s l e o .0
 
+    pub shown-bad : (index : ℕ) → Shown s index (replicate 16 false) (replicate 16 false) 0
+    unfolding placesIn
+    shown-bad index = shown-nowhere s index (sym (ap (placesIn index) bad-read))
+
     pub verdict-bad : verdict.Refused (faultOf k) p ≡ judged (run fullRecord s) .verdict
     unfolding judged
     verdict-bad = sym (ap (λ x. judged x .verdict) bad-read)
@@ -121,16 +142,17 @@ module _ (s : List ℕ) (l : Layout) (e : l ≡ layoutOf s) where
 -- ---- With the description
 
 module _ (s : List ℕ) where
-  judged-by : {n k : ℕ} {t : Bool} (x : Answer Record) → run fullRecord s ≡ x → verdict.Record n k t ≡ judged x .verdict
-      → described (readAt (description 2) s 8) .description ≡ judged x .description
-  unfolding judged described
-  judged-by (ok r n) q e = ap (λ y. described y .description) (record-described s q .1)
-  judged-by short q e = impossible (cc)
-  judged-by (bad k p) q e = impossible (cc)
+  module _ {at : ℕ} (place : told (run marks s) ≡ Done at) where
+    judged-by : {n k : ℕ} {t : Bool} (x : Answer Record) → run fullRecord s ≡ x → verdict.Record n k t ≡ judged x .verdict
+        → described (readAt (description 2) s at) .description ≡ judged x .description
+    unfolding judged described
+    judged-by (ok r n) q e = ap (λ y. described y .description) (record-described s place q .1)
+    judged-by short q e = impossible (cc)
+    judged-by (bad k p) q e = impossible (cc)
 
-  pub judged-record : (v : Verdict) {n k : ℕ} {t : Bool} → v ≡ judged (run fullRecord s) .verdict → v ≡ verdict.Record n k t
-      → _≡_ {A = Judged} (record { verdict = v; description = described (readAt (description 2) s 8) .description }) (judged (run fullRecord s))
-  judged-record v e q = λ i. record { verdict = e i; description = judged-by (run fullRecord s) refl (sym q ∙ e) i }
+    pub judged-record : (v : Verdict) {n k : ℕ} {t : Bool} → v ≡ judged (run fullRecord s) .verdict → v ≡ verdict.Record n k t
+        → _≡_ {A = Judged} (record { verdict = v; description = described (readAt (description 2) s at) .description }) (judged (run fullRecord s))
+    judged-record v e q = λ i. record { verdict = e i; description = judged-by (run fullRecord s) refl (sym q ∙ e) i }
 
   short-by : (x : Answer Record) → verdict.Short ≡ judged x .verdict → nothing ≡ judged x .description
   unfolding judged

@@ -72,5 +72,8 @@ laidNext next (Bad k p) = nowhereLaid (Bad k p)
 unfoldable pub laidPoints : List ℕ → Front → ℕ → Layout
 laidPoints s f at = laidNext (laidExtension s f at) (told (readAt (times (f .count) (point (storing (f .stored)))) s at))
 
+abbrev pub laidBehind : List ℕ → Fronted → Layout
+laidBehind s f = laidNext (laidPoints s (f .front)) (f .outcome)
+
 unfoldable pub layoutOf : List ℕ → Layout
-layoutOf s = laidNext (laidPoints s (fronted (run front s) .front)) (fronted (run front s) .outcome)
+layoutOf s = laidBehind s (fronted (run front s))

@@ -10,12 +10,13 @@ ghost use mathlib.Core.Path.{_≡_};
 ghost use mathlib.Core.Bool.{true, cond};
 ghost use mathlib.Core.Option.{some, none};
 ghost use lib.Dec.{T};
-ghost use mathlib.Core.List.{map};
+ghost use mathlib.Core.List.{List, map};
 ghost use Prim.Native.Nat.{ℕ, _+_, _*_, _≤_, _<_};
 ghost use lib.ListN.{length, drop};
 ghost use Rattle.formats.specs.Reader.{readAt, times, run};
 ghost use Rattle.formats.specs.Told.{told, repeated, matched};
 ghost use Rattle.formats.specs.Jump.{ends};
+ghost use Rattle.formats.specs.declared.Outcome.the-variants.{Done};
 ghost use Rattle.formats.specs.Part.{Part};
 ghost use Rattle.formats.specs.Number.{digits};
 ghost use Rattle.formats.specs.Writes.{encodeEach};
@@ -23,13 +24,15 @@ ghost use Rattle.formats.specs.Laid.{Room, Laid};
 ghost use Rattle.formats.specs.Lent.{writing};
 ghost use Rattle.channels.specs.Channel.{signs as signTable};
 ghost use Rattle.channels.specs.Stored.{fits, storedOf};
+ghost use Rattle.channels.specs.declared.Descriptor.{Descriptor};
 ghost use Rattle.channels.specs.declared.Description.{Description};
-ghost use Rattle.descriptions.specs.Description.{isStored, encodeDescription};
+ghost use Rattle.descriptions.specs.Description.{description, isStored, encodeDescription};
+ghost use Rattle.descriptions.specs.Read.{measured};
 ghost use Rattle.descriptions.specs.Write.{flawOf};
 ghost use Rattle.descriptions.specs.declared.Flaw.the-variants.{None};
 ghost use Rattle.records.specs.Record.{sample, point, extension, fullRecord, storedFrom, stored, widths, width, encodeSample, encodeExtended, encode, fitsSample, sampleSize};
 ghost use Rattle.records.specs.Front.{marks, opened, channelled, front};
-ghost use Rattle.records.specs.Layout.{storing, noFront, fronted, nowhereLaid, laidExtension, laidPoints, layoutOf};
+ghost use Rattle.records.specs.Layout.{storing, noFront, fronted, nowhereLaid, laidExtension, laidPoints, laidBehind, layoutOf};
 ghost use Rattle.records.specs.Verdict.{numberOf, faultOf, judged, unjudged, judgedWhole, extendedPlace, extendedSize, restPlace, restSize, pointedAt, placesIn};
 ghost use Rattle.records.specs.Write.{numberOf as writtenNumber, fitsEach, fitsRow, heldFrom, rowBytes, openingBytes, frontBytes, recordOf, checkValues, byFlaw, Passed, writeOf};
 ghost use Rattle.records.specs.declared.Written.the-variants as answers;
@@ -142,18 +145,25 @@ fn front_of(s: &[u8]) -> Fronted
     }
 }
 
-// The channels, and what stands between them and the points.
+// The channels, measured, and what stands between them and the points.
 fn measured_at(s: &[u8], at: usize) -> Fronted
     requires { ⌜ at ≤ length (now s) ⌝ }
     ensures { λ r. ⌜ r ≡ fronted (readAt channelled (now (s .entry)) at) ⌝ }
 {
     let measured = descriptions::measure(s, at, Format::Full);
     let outcome = measured.outcome;
+    let stored = measured.stored;
+    opened_behind(s, outcome, stored)
+}
+
+// What stands between the channels and the points, from how the channels ended and which of them are stored:
+// whether they were read or measured is all one.
+fn opened_behind(s: &[u8], outcome: Outcome, stored: [bool; 16]) -> Fronted
+    requires { ⌜ ((n : ℕ) → outcome ≡ Done n → n ≤ length (now s)) ⌝ }
+    ensures { λ r. ⌜ ((at : ℕ) → outcome ≡ measured (readAt (description 2) (now (s .entry)) at) .outcome → stored ≡ measured (readAt (description 2) (now (s .entry)) at) .stored → r ≡ fronted (readAt channelled (now (s .entry)) at)) ⌝ }
+{
     match outcome {
-        Outcome::Done(next) => {
-            let stored = measured.stored;
-            opened_at(s, next, stored)
-        }
+        Outcome::Done(at) => opened_at(s, at, stored),
         Outcome::Short => no_front(Outcome::Short),
         Outcome::Bad(k, p) => no_front(Outcome::Bad(k, p)),
     }
@@ -203,13 +213,20 @@ pub enum Taken {
 pub fn place_at(bytes: &[u8], at: usize, channel: usize, d: Descriptor) -> Taken
     ensures { λ r. ⌜ r ≡ taken (readAt (seat channel d) (now (bytes .entry)) at) ⌝ }
 {
-    if !d.included {
+    seat_at(bytes, at, channel, d.included, descriptions::is_stored(d))
+}
+
+// The same, by what is needed of the descriptor: whether the channel is included and whether it is stored.
+fn seat_at(bytes: &[u8], at: usize, channel: usize, included: bool, stored: bool) -> Taken
+    ensures { λ r. ⌜ ((d : Descriptor) → included ≡ d .included → stored ≡ isStored d → r ≡ taken (readAt (seat channel d) (now (bytes .entry)) at)) ⌝ }
+{
+    if !included {
         return Taken::Took {
             place: Place::Absent,
             next: at,
         };
     }
-    if d.constant {
+    if !stored {
         return Taken::Took {
             place: Place::Constant,
             next: at,
@@ -228,21 +245,47 @@ pub fn place_at(bytes: &[u8], at: usize, channel: usize, d: Descriptor) -> Taken
 pub fn point_at(bytes: &[u8], start: usize, description: Description) -> [Place; 16]
     ensures { λ r. ⌜ r ≡ placesAt description (readAt (point description) (now (bytes .entry)) start) ⌝ }
 {
+    let included = included_channels(description);
+    let stored = stored_channels(description);
+    places_at(bytes, start, included, stored)
+}
+
+// The same, by what is needed of the description. Whether the point is there or not, one array is handed back:
+// were there a second, each copy of it would be made place by place.
+fn places_at(bytes: &[u8], start: usize, included: [bool; 16], stored: [bool; 16]) -> [Place; 16]
+    ensures { λ r. ⌜ ((d : Description) → included ≡ map (λ c. c .included) (d .channels) → stored ≡ map isStored (d .channels) → r ≡ placesAt d (readAt (point d) (now (bytes .entry)) start)) ⌝ }
+{
     let mut places = [Place::Absent; 16];
     let mut at = start;
     let mut channel: usize = 0;
     while channel < 16 {
-        let d = description.channels[channel];
-        match place_at(bytes, at, channel, d) {
+        match seat_at(bytes, at, channel, included[channel], stored[channel]) {
             Taken::Took { place, next } => {
                 places[channel] = place;
                 at = next;
             }
-            Taken::Missing => return [Place::Absent; 16],
+            Taken::Missing => {
+                places = [Place::Absent; 16];
+                return places;
+            }
         }
         channel += 1;
     }
     places
+}
+
+// Which channels are included.
+fn included_channels(d: Description) -> [bool; 16]
+    ensures { λ r. ⌜ r ≡ map (λ c. c .included) (d .channels) ⌝ }
+{
+    let mut held = [false; 16];
+    let mut i: usize = 0;
+    while i < 16 {
+        let c = d.channels[i];
+        held[i] = c.included;
+        i += 1;
+    }
+    held
 }
 
 // Which channels a sample point holds a number of: what the loops over values are lent, where the description would be copied.
@@ -405,12 +448,20 @@ fn unlaid(outcome: Outcome) -> Layout
 fn laid(s: &[u8]) -> Layout
     ensures { λ r. ⌜ r ≡ layoutOf (now (s .entry)) ⌝ }
 {
-    let fronted = front_of(s);
-    let outcome = fronted.outcome;
+    let heading = front_of(s);
+    laid_behind(s, heading)
+}
+
+// What lies behind a front, whatever read it.
+fn laid_behind(s: &[u8], heading: Fronted) -> Layout
+    requires { ⌜ ((n : ℕ) → heading .outcome ≡ Done n → n ≤ length (now s)) ⌝ }
+    ensures { λ r. ⌜ r ≡ laidBehind (now (s .entry)) heading ⌝ }
+{
+    let outcome = heading.outcome;
     match outcome {
-        Outcome::Done(at) => {
-            let front = fronted.front;
-            laid_points(s, front, at)
+        Outcome::Done(points) => {
+            let front = heading.front;
+            laid_points(s, front, points)
         }
         Outcome::Short => unlaid(Outcome::Short),
         Outcome::Bad(k, p) => unlaid(Outcome::Bad(k, p)),
@@ -513,11 +564,10 @@ fn fault_of(number: u8) -> Fault
     }
 }
 
-// The front of some bytes: whether a record stands there.
-pub fn verdict_of(bytes: &[u8]) -> Verdict
-    ensures { λ r. ⌜ r ≡ judged (run fullRecord (now (bytes .entry))) .verdict ⌝ }
+// The verdict on a record that lies so.
+fn verdict_from(layout: Layout) -> Verdict
+    ensures { λ r. ⌜ ((s : List ℕ) → layout ≡ layoutOf s → r ≡ judged (run fullRecord s) .verdict) ⌝ }
 {
-    let layout = laid(bytes);
     let outcome = layout.outcome;
     match outcome {
         Outcome::Done(end) => Verdict::Record {
@@ -533,29 +583,45 @@ pub fn verdict_of(bytes: &[u8]) -> Verdict
     }
 }
 
-// The description of a record stands behind its identifier and its version.
-const DESCRIPTION: usize = 8;
+// The front of some bytes: whether a record stands there.
+pub fn verdict_of(bytes: &[u8]) -> Verdict
+    ensures { λ r. ⌜ r ≡ judged (run fullRecord (now (bytes .entry))) .verdict ⌝ }
+{
+    let layout = laid(bytes);
+    verdict_from(layout)
+}
 
-// The front of some bytes, with the description of the record that stands there.
+// The front of some bytes, with the description of the record that stands there, which is read once.
 pub fn judge(bytes: &[u8]) -> Judged
     ensures { λ r. ⌜ r ≡ judged (run fullRecord (now (bytes .entry))) ⌝ }
 {
-    let verdict = verdict_of(bytes);
-    match verdict {
-        Verdict::Record {
-            length: _,
-            count: _,
-            extended: _,
-        } => {
-            let described = descriptions::read(bytes, DESCRIPTION, Format::Full);
+    match marks_end(bytes) {
+        Outcome::Done(at) => {
+            let described = descriptions::read(bytes, at, Format::Full);
             let description = described.description;
-            Judged {
-                verdict: verdict,
-                description: description,
+            let outcome = described.outcome;
+            let stored = described.stored;
+            let heading = opened_behind(bytes, outcome, stored);
+            let layout = laid_behind(bytes, heading);
+            let verdict = verdict_from(layout);
+            match verdict {
+                Verdict::Record {
+                    length: _,
+                    count: _,
+                    extended: _,
+                } => Judged {
+                    verdict: verdict,
+                    description: description,
+                },
+                Verdict::Short => unjudged(verdict),
+                Verdict::Refused { fault: _, place: _ } => unjudged(verdict),
             }
         }
-        Verdict::Short => unjudged(verdict),
-        Verdict::Refused { fault: _, place: _ } => unjudged(verdict),
+        Outcome::Short => unjudged(Verdict::Short),
+        Outcome::Bad(k, p) => unjudged(Verdict::Refused {
+            fault: fault_of(k),
+            place: p,
+        }),
     }
 }
 
@@ -663,25 +729,37 @@ pub fn judge_point(bytes: &[u8], index: usize) -> Pointed
     }
 }
 
-// One sample point as sixteen places, all absent where there is no such point.
+// One sample point as sixteen places, all absent where there is no such point: it is then read by the flags of no channel.
 pub fn point(bytes: &[u8], index: usize) -> [Place; 16]
     ensures { λ r. ⌜ r ≡ placesIn index (run fullRecord (now (bytes .entry))) ⌝ }
 {
-    let layout = laid(bytes);
-    let outcome = layout.outcome;
-    match outcome {
-        Outcome::Done(_) => {
-            if index < (layout.count as usize) {
-                let described = descriptions::read(bytes, DESCRIPTION, Format::Full);
-                let description = described.description;
-                point_at(bytes, layout.points + index * layout.width, description)
-            } else {
-                [Place::Absent; 16]
+    let mut included = [false; 16];
+    let mut stored = [false; 16];
+    let mut start: usize = 0;
+    match marks_end(bytes) {
+        Outcome::Done(at) => {
+            let measured = descriptions::measure(bytes, at, Format::Full);
+            let outcome = measured.outcome;
+            let held = measured.stored;
+            let heading = opened_behind(bytes, outcome, held);
+            let layout = laid_behind(bytes, heading);
+            let outcome = layout.outcome;
+            match outcome {
+                Outcome::Done(_) => {
+                    if index < (layout.count as usize) {
+                        included = measured.included;
+                        stored = held;
+                        start = layout.points + index * layout.width;
+                    }
+                }
+                Outcome::Short => {}
+                Outcome::Bad(_, _) => {}
             }
         }
-        Outcome::Short => [Place::Absent; 16],
-        Outcome::Bad(_, _) => [Place::Absent; 16],
+        Outcome::Short => {}
+        Outcome::Bad(_, _) => {}
     }
+    places_at(bytes, start, included, stored)
 }
 
 // What became of a record that was to be written: its length, or why there is none, in the order of the stages.

@@ -1,45 +1,17 @@
--- `records::place_at` meets its contract: the flags decide whether a number is read.
-use mathlib.Core.Path.{_≡_, sym, ap, _∙_}
-use mir.Syntax.{w32}
-use mir.ValLaws.{toZ-ofZ}
-use borrow.Author.Tests.{not-true, not-false}
-use Rattle.records.specs.Points.{taken}
-use Rattle.records.proofs.Seats.{seat-absent, seat-constant, seat-took, seat-missing}
+-- `records::place_at` meets its contract: the flags are the descriptor's.
+use mathlib.Core.Path.{refl}
 use borrow.Author.Needs.{needs}
 use Rattle.records.proofs.place_at.Statement.{statement}
 use Rattle.records.proofs.place_at.Tie as tie
 
+is-stored-requires : tie.Need-is-stored-requires
+is-stored-requires c κs = search needs
+
+seat-at-requires : tie.Need-seat-at-requires
+seat-at-requires c κs = search needs
+
 returns : tie.Need-returns
-unfolding taken
-returns c = sym (ap taken (seat-absent _ _ _ _ (not-true _ (c .if1 .taken))))
-
-returns-2 : tie.Need-returns-2
-unfolding taken
-returns-2 c = sym (ap taken (seat-constant _ _ _ _ (not-false _ (c .before .if1 .left)) (c .if2 .taken)))
-
-sample-at-requires : tie.Need-sample-at-requires
-sample-at-requires c κs = search needs
-
-enum-known-value : tie.Need-enum-known-value
-enum-known-value c = search needs
-
-enum-told : tie.Need-enum-told
-enum-told c = search needs
-
-returns-3 : tie.Need-returns-3
-returns-3 c =
-    let m = c .before .before .before in
-    let e = m .before in
-    rw (toZ-ofZ w32 (c .before .value .given .0 .0) (search needs))
-    (sym (seat-took _ _ _ _ (not-false _ (e .before .if1 .left)) (e .if2 .left) (sym (m .sample-at .ensures) ∙ c .before .value .given .1)))
-
-returns-4 : tie.Need-returns-4
-returns-4 c =
-    let m = c .before .before in
-    let e = m .before in
-    sym (seat-missing _ _ _ _ (not-false _ (e .before .if1 .left)) (e .if2 .left) (sym (m .sample-at .ensures) ∙ c .enum-told .given .1))
+returns c = c .seat-at .ensures (c .before .before .before .args .d) refl (c .before .is-stored .ensures)
 
 pub place-at-spec : {M : Type 1} → statement M
-place-at-spec =
-    tie.close
-    (tie.spec returns returns-2 sample-at-requires enum-known-value enum-told returns-3 returns-4)
+place-at-spec = tie.close (tie.spec is-stored-requires seat-at-requires returns)

@@ -6,12 +6,12 @@ use native.Mathlib.Omega.{arith}
 use borrow.Author.Needs.{needs}
 use lib.ListN.{length, length-map, length-set}
 use Rattle.descriptions.specs.Description.{isStored}
-use Rattle.records.proofs.Laying.{marking, mark-next, marked-all}
+use Rattle.records.proofs.Marking.{marking, mark-next, marked-all}
 use Rattle.records.proofs.stored_channels.Statement.{statement}
 use Rattle.records.proofs.stored_channels.Tie as tie
 
 abbrev Inv-loop : tie.InvT-loop
-Inv-loop d held₀ i₀ held i = (i ≤ 16) × (length held ≡ 16) × (map isStored (d .channels) ≡ marking held (d .channels) i)
+Inv-loop d held₀ i₀ held i = (i ≤ 16) × (length held ≡ 16) × (map isStored (d .channels) ≡ marking isStored held (d .channels) i)
 
 abbrev μ-loop : tie.MeasureT-loop
 μ-loop d held₀ i₀ held i = 16 - i
@@ -46,13 +46,13 @@ loop-again c =
     let l = c .before .before .before in (
       omega arith,
       simp length-set (l .loop .inv .1),
-      l .loop .inv .2 ∙ mark-next _ _ _ _ (omega (arith, l .loop .inv .1)) (omega (arith, sixteen (l .before))) (c .is-stored .ensures),
+      l .loop .inv .2 ∙ mark-next isStored _ _ _ _ (omega (arith, l .loop .inv .1)) (omega (arith, sixteen (l .before))) (c .is-stored .ensures),
     )
 
 returns : tie.Need-returns Inv-loop μ-loop
 returns c =
     let l = c .before in
-    (sym (l .loop .inv .2 ∙ marked-all _ _ (l .loop .i) (omega (arith, sixteen (l .before))) (omega (arith, l .loop .inv .1))), l .loop .inv .1)
+    (sym (l .loop .inv .2 ∙ marked-all isStored _ _ (l .loop .i) (omega (arith, sixteen (l .before))) (omega (arith, l .loop .inv .1))), l .loop .inv .1)
 
 pub stored-channels-spec : {M : Type 1} → statement M
 stored-channels-spec =
