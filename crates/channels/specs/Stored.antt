@@ -1,13 +1,11 @@
 -- A channel's number, and the number of w bytes that is stored for it: two bytes in a record (7.3.4.4, 7.3.4.5, 7.4.2), one in a template (8.2.2.4).
-use mathlib.Core.Path.{_≡_, refl, sym, ap, _∙_}
-use mathlib.Core.Logic.{by-cases}
+use mathlib.Core.Path.{_≡_, refl, sym, ap, ap₂, _∙_}
 use mathlib.Core.Bool.{Bool, true, false, cond, _&&_}
-use Prim.Native.Nat.{ℕ, suc, _+_, _-_, _/_, _^_, _≤_, _<_}
-use native.Mathlib.Decide.{decLt}
+use Prim.Native.Nat.{ℕ, zero, suc, _-_, _/_, _^_, _<_}
+use native.Mathlib.Nat.{one-le-pow}
 use native.Mathlib.Omega.{arith}
-use lib.Dec.{T, leb, ltb, ltb→lt, lt→ltb, leb·zero}
-use borrow.Author.Tests.{lt-ltb, lt-leb, le-leb, ltb-true, ltb-false}
-use lib.IntN.{ℤ, pos, negsuc, natAbs, _+ℤ_, _-ℤ_, -ℤ-+ℤ-cancel, +ℤ-negℤ-cancel, +ℤ-idr}
+use lib.Dec.{T, ltb→lt, lt→ltb, leb·zero, leb·suc-zero, leb·suc-suc}
+use lib.IntN.{ℤ, pos, negsuc, natAbs, sucℤ, _+ℤ_, _-ℤ_, -ℤ-+ℤ-cancel, +ℤ-negℤ-cancel, +ℤ-idr, +ℤ-sucℤ}
 use lib.Signed.{nonNeg, leZ, ltZ}
 use Rattle.channels.specs.declared.Stored.{Stored}
 use Rattle.channels.specs.declared.Stored.the-variants.{Number, Outside}
@@ -56,28 +54,51 @@ module _ (w : ℕ) (signed : Bool) where
   unfolding fits storedOf valueOf
   value-stored v h = ap (λ z. z -ℤ offset w signed) (below (v +ℤ offset w signed) h .1) ∙ +ℤ-negℤ-cancel v (offset w signed)
 
--- ---- The ranges, as the standard gives them
+-- ---- The ranges
 
-same-test : (a b c d : ℕ) → (a ≤ b → c ≤ d) → (b < a → d < c) → leb a b ≡ leb c d
-same-test a b c d f g = by-cases (decLt b a) (λ h. lt-leb a b h ∙ sym (lt-leb c d (g h))) (λ h. le-leb a b (omega arith) ∙ sym (le-leb c d (f (omega arith))))
+-- what is added to two numbers leaves their order as it is
+one-more : (a b : ℤ) → leZ (sucℤ a) (sucℤ b) ≡ leZ a b
+one-more (pos a) (pos b) = leb·suc-suc a b
+one-more (pos a) (negsuc zero) = leb·suc-zero a
+one-more (pos a) (negsuc (suc b)) = refl
+one-more (negsuc zero) (pos b) = leb·zero (suc b)
+one-more (negsuc zero) (negsuc zero) = refl
+one-more (negsuc zero) (negsuc (suc b)) = sym (leb·suc-zero b)
+one-more (negsuc (suc a)) (pos b) = refl
+one-more (negsuc (suc a)) (negsuc zero) = sym (leb·zero (suc a))
+one-more (negsuc (suc a)) (negsuc (suc b)) = sym (leb·suc-suc b a)
 
--- a number with half of what can be stored added
-half : (k : ℕ) (v : ℤ) → (nonNeg (v +ℤ pos (suc k)) && ltZ (v +ℤ pos (suc k)) (pos (suc k + suc k))) ≡ (leZ (negsuc k) v && leZ v (pos k))
-half k (pos n) = same-test (suc (n + suc k)) (suc k + suc k) n k (λ h. omega arith) (λ h. omega arith)
-half k (negsuc n) = go (ltb (suc k) (suc n)) refl
+more : (a b : ℤ) (k : ℕ) → leZ (a +ℤ pos k) (b +ℤ pos k) ≡ leZ a b
+more a b zero = ap₂ leZ (+ℤ-idr a) (+ℤ-idr b)
+more a b (suc k) = ap₂ leZ (+ℤ-sucℤ a (pos k)) (+ℤ-sucℤ b (pos k)) ∙ one-more (a +ℤ pos k) (b +ℤ pos k) ∙ more a b k
+
+-- from 0 to below a limit is from 0 to the number before it
+up-to : (m : ℕ) (v : ℤ) → (nonNeg v && ltZ v (pos (suc m))) ≡ (leZ (pos 0) v && leZ v (pos m))
+up-to m (pos n) = rw (leb·zero n) (leb·suc-suc n m)
+up-to m (negsuc n) = refl
+
+-- and so it is with k added
+shifted : (k m : ℕ) (v : ℤ) → (nonNeg (v +ℤ pos k) && ltZ (v +ℤ pos k) (pos (suc m))) ≡ (leZ (pos 0 -ℤ pos k) v && leZ v (pos m -ℤ pos k))
+shifted k m v =
+    up-to m (v +ℤ pos k)
+    ∙ ap₂
+    _&&_
+    (ap (λ z. leZ z (v +ℤ pos k)) (sym (-ℤ-+ℤ-cancel (pos 0) (pos k))) ∙ more (pos 0 -ℤ pos k) v k)
+    (ap (leZ (v +ℤ pos k)) (sym (-ℤ-+ℤ-cancel (pos m) (pos k))) ∙ more v (pos m -ℤ pos k) k)
+
+-- a number can be stored where it is between what the least and the largest stored number stand for
+pub between : (w : ℕ) (signed : Bool) (v : ℤ) → fits w signed v ≡ (leZ (valueOf w signed 0) v && leZ v (valueOf w signed (256 ^ w - 1)))
+unfolding fits valueOf offset
+between w signed v = go signed
   where
-    z : Bool → ℤ
-    z t = cond t (negsuc (suc n - suc (suc k))) (pos (suc k - suc n))
+    limit : 256 ^ w ≡ suc (256 ^ w - 1)
+    limit = omega (arith, one-le-pow w 256 (omega arith))
 
-    go : (t : Bool) → ltb (suc k) (suc n) ≡ t → (nonNeg (z t) && ltZ (z t) (pos (suc k + suc k))) ≡ (leb n k && true)
-    go true e = sym (ap (λ x. x && true) (lt-leb n k (omega (arith, ltb-true (suc k) (suc n) e))))
-    go false e = lt-ltb (suc k - suc n) (suc k + suc k) (omega arith) ∙ sym (ap (λ x. x && true) (le-leb n k (omega (arith, ltb-false (suc k) (suc n) e))))
+    go : (t : Bool) → fits w t v ≡ (leZ (valueOf w t 0) v && leZ v (valueOf w t (256 ^ w - 1)))
+    go true = ap (λ n. nonNeg (v +ℤ pos (256 ^ w / 2)) && ltZ (v +ℤ pos (256 ^ w / 2)) (pos n)) limit ∙ shifted (256 ^ w / 2) (256 ^ w - 1) v
+    go false = ap (λ n. nonNeg (v +ℤ pos 0) && ltZ (v +ℤ pos 0) (pos n)) limit ∙ shifted 0 (256 ^ w - 1) v
 
--- and with nothing added
-full : (k : ℕ) (v : ℤ) → (nonNeg v && ltZ v (pos (suc k))) ≡ (leZ (pos 0) v && leZ v (pos k))
-full k (pos n) = rw (leb·zero n) (same-test (suc n) (suc k) n k (λ h. omega arith) (λ h. omega arith))
-full k (negsuc n) = refl
-
+-- as the standard gives them
 pub record Ranges (v : ℤ) : Type 0 where
   pub signed : fits 2 true v ≡ (leZ (negsuc 32767) v && leZ v (pos 32767))
   pub unsigned : fits 2 false v ≡ (leZ (pos 0) v && leZ v (pos 65535))
@@ -85,5 +106,5 @@ pub record Ranges (v : ℤ) : Type 0 where
   pub short-unsigned : fits 1 false v ≡ (leZ (pos 0) v && leZ v (pos 255))
 
 pub ranges : (v : ℤ) → Ranges v
-unfolding fits offset
-ranges v = record { signed = half 32767 v; unsigned = rw (+ℤ-idr v) (full 65535 v); short-signed = half 127 v; short-unsigned = rw (+ℤ-idr v) (full 255 v) }
+unfolding valueOf offset
+ranges v = record { signed = between 2 true v; unsigned = between 2 false v; short-signed = between 1 true v; short-unsigned = between 1 false v }

@@ -1,22 +1,25 @@
--- Facts of a description that is judged: a test of the sixteen channels, one at a time; a number that is zero; and one that can be stored.
-use mathlib.Core.Path.{_≡_, refl, sym, _∙_}
-use mathlib.Core.Bool.{Bool, true, false, cond, _&&_}
-use mathlib.Core.List.{List}
-use Prim.Native.Nat.{ℕ, suc, _+_, _-_, _^_, _≤_, _<_}
+-- Facts of a description that is judged: a test of the sixteen channels, one at a time; two tests that are made in one look; a number that is zero; and one that can be stored.
+use mathlib.Core.Path.{_≡_, refl, sym, ap, _∙_}
+use mathlib.Core.Bool.{Bool, true, false, not, cond, _&&_, _||_, and-false, and-assoc}
+use mathlib.Core.List.{List, [], _∷_}
+use Prim.Native.Nat.{ℕ, zero, suc, _+_, _-_, _^_, _≤_, _<_}
 use native.Mathlib.Numerals.{add-one}
 use native.Mathlib.Omega.{arith}
 use borrow.Author.Tests.{ne-eqb}
-use lib.Dec.{T, eqb}
+use lib.Dec.{T, eqb, leb·zero, leb·suc-zero}
 use lib.IntN.{ℤ, pos, negsuc, natAbs}
 use lib.ListN.{length, drop, getD, drop-of-length-le}
 use lib.Seq.{drop-cons}
+use lib.Signed.{leZ}
 use mir.Syntax.{w32}
 use mir.Val.{SFits, ofZ}
 use Rattle.formats.specs.Bytes.{impossible}
-use Rattle.channels.specs.Stored.{fits, storedOf, storedIf}
+use Rattle.channels.specs.Channel.{signedOf}
+use Rattle.channels.specs.Stored.{valueOf, fits, storedOf, storedIf, between}
+use Rattle.channels.specs.declared.Attribute.{Attribute}
 use Rattle.channels.specs.declared.Descriptor.{Descriptor}
 use Rattle.channels.specs.declared.Stored.the-variants.{Number, Outside}
-use Rattle.descriptions.specs.Description.{absent, every}
+use Rattle.descriptions.specs.Description.{absent, flagless, tidyAttribute, tidyDescriptor, fitsAttribute, fitsDescriptor, every}
 
 -- the bits of a number are zero where the number is
 pub zero-bits : (z : ℤ) → SFits w32 z → eqb (ofZ w32 z) 0 ≡ eqb (natAbs z) 0
@@ -40,6 +43,95 @@ module _ (w : ℕ) (signed : Bool) (v : ℤ) where
       go : (t : Bool) → fits w signed v ≡ t → cond t (Number (storedOf w signed v)) Outside ≡ Outside → fits w signed v ≡ false
       go true h q = impossible (cc)
       go false h q = h
+
+-- ---- Two tests in one look
+
+-- between 0 and 0 there is only 0
+only-zero : (v : ℤ) → (leZ (pos 0) v && leZ v (pos 0)) ≡ (eqb (natAbs v) 0 && true)
+only-zero (pos zero) = refl
+only-zero (pos (suc n)) = rw (leb·zero (suc n), leb·suc-zero n, ne-eqb (suc n) 0 (λ e. omega arith))
+only-zero (negsuc n) = rw (ne-eqb (suc n) 0 (λ e. omega arith))
+
+-- an attribute is tidy and fits where its number is between two: the least and the most, or 0 and 0 where it is not given
+module _ (a : Attribute) (w : ℕ) (signed : Bool) where
+  pub sound-attribute : {first last : ℤ} → first ≡ cond (a .given) (valueOf w signed 0) (pos 0) → last ≡ cond (a .given) (valueOf w signed (256 ^ w - 1)) (pos 0)
+      → (leZ first (a .number) && leZ (a .number) last) ≡ (tidyAttribute a && fitsAttribute w signed a)
+  unfolding tidyAttribute fitsAttribute
+  sound-attribute p q = rw (p, q) (go (a .given))
+    where
+      go : (t : Bool)
+          → (leZ (cond t (valueOf w signed 0) (pos 0)) (a .number) && leZ (a .number) (cond t (valueOf w signed (256 ^ w - 1)) (pos 0)))
+          ≡ ((t || eqb (natAbs (a .number)) 0) && (not t || fits w signed (a .number)))
+      go true = sym (between w signed (a .number))
+      go false = only-zero (a .number)
+
+-- what is asked only where what stands before it holds: it decides then, and not otherwise
+module _ {passed before : Bool} (e : passed ≡ before) where
+  pub asked : {found this : Bool} → passed ≡ true → found ≡ this → found ≡ (before && this)
+  asked {this} h f = f ∙ ap (λ b. b && this) (sym h ∙ e)
+
+  pub not-asked : (this : Bool) → passed ≡ false → passed ≡ (before && this)
+  not-asked this h = h ∙ ap (λ b. b && this) (sym h ∙ e)
+
+-- two tests of one thing after another are the first test of all and the second of all
+pairs : (u x y s t : Bool) → (u && x && y && (s && t)) ≡ (u && (x && s) && (y && t))
+pairs true true true s t = refl
+pairs true true false s t = sym (and-false s)
+pairs true false y s t = refl
+pairs false x y s t = refl
+
+five-pairs : (u a p b q c r d s e t : Bool) → (u && (a && p) && (b && q) && (c && r) && (d && s) && (e && t)) ≡ (u && (a && b && c && d && e) && (p && q && r && s && t))
+five-pairs u a p b q c r d s e t =
+    ap (λ z. z && (b && q) && (c && r) && (d && s) && (e && t)) (sym (and-assoc u a p))
+    ∙ ap (λ z. z && (c && r) && (d && s) && (e && t)) (pairs u a p b q)
+    ∙ ap (λ z. z && (d && s) && (e && t)) (pairs u (a && b) (p && q) c r)
+    ∙ ap (λ z. z && (e && t)) (pairs u (a && b && c) (p && q && r) d s)
+    ∙ pairs u (a && b && c && d) (p && q && r && s) e t
+
+-- what is asked of a descriptor, up to each attribute
+module _ (d : Descriptor) where
+  abbrev pub toFlags : Bool
+  toFlags = d .included || flagless d
+
+  abbrev pub toScaling : Bool
+  toScaling = toFlags && (tidyAttribute (d .scaling) && fitsAttribute 2 false (d .scaling))
+
+module _ (w channel : ℕ) (d : Descriptor) where
+  abbrev pub toMinimum : Bool
+  toMinimum = toScaling d && (tidyAttribute (d .minimum) && fitsAttribute w (signedOf channel) (d .minimum))
+
+  abbrev pub toMaximum : Bool
+  toMaximum = toMinimum && (tidyAttribute (d .maximum) && fitsAttribute w (signedOf channel) (d .maximum))
+
+  abbrev pub toMean : Bool
+  toMean = toMaximum && (tidyAttribute (d .mean) && fitsAttribute w (signedOf channel) (d .mean))
+
+  abbrev pub toDeviation : Bool
+  toDeviation = toMean && (tidyAttribute (d .deviation) && fitsAttribute w false (d .deviation))
+
+  pub all-asked : toDeviation ≡ (tidyDescriptor d && fitsDescriptor w channel d)
+  unfolding tidyDescriptor fitsDescriptor
+  all-asked =
+      five-pairs
+      (toFlags d)
+      (tidyAttribute (d .scaling))
+      (fitsAttribute 2 false (d .scaling))
+      (tidyAttribute (d .minimum))
+      (fitsAttribute w (signedOf channel) (d .minimum))
+      (tidyAttribute (d .maximum))
+      (fitsAttribute w (signedOf channel) (d .maximum))
+      (tidyAttribute (d .mean))
+      (fitsAttribute w (signedOf channel) (d .mean))
+      (tidyAttribute (d .deviation))
+      (fitsAttribute w false (d .deviation))
+
+-- two tests of each channel are one
+pub every-both : (f g : ℕ → Descriptor → Bool) (i : ℕ) (ds : List Descriptor) → (every f i ds && every g i ds) ≡ every (λ j d. f j d && g j d) i ds
+unfolding every
+every-both f g i [] = refl
+every-both f g i (d ∷ ds) = sym (pairs true (f i d) (g i d) (every f (suc i) ds) (every g (suc i) ds)) ∙ ap (λ b. f i d && g i d && b) (every-both f g (suc i) ds)
+
+-- ---- The channels that are left
 
 both : (a b : Bool) → T (a && b) → T a × T b
 both true b h = (tt, h)
