@@ -5,14 +5,14 @@ use Prim.Native.Nat.{ℕ, zero, suc, _+_, _-_, _/_, _<_, _≤_, _^_}
 use native.Mathlib.Omega.{arith}
 use lib.IntN.{ℤ, pos, negsuc, natAbs, _+ℤ_, _-ℤ_, subℕ}
 use lib.Signed.{ltZ, leZ, nonNeg}
-use lib.Dec.{T, ltb, leb}
+use lib.Dec.{T, ltb, leb, ltb→lt}
 use mir.Syntax.{w16, w32, w64}
 use mir.Val.{SFits, Fits, toZ, ofZ}
 use mir.ValLaws.{toZ-ofZ}
 use borrow.Author.Tests.{ltb-true, ltb-false, lt-ltb, le-ltb, leb-true, leb-false}
 use Rattle.formats.specs.Bytes.{impossible}
 use Rattle.channels.specs.Channel.{widthOf}
-use Rattle.channels.specs.Stored.{offset}
+use Rattle.channels.specs.Stored.{offset, valueOf, fits, stored-above}
 use Rattle.channels.specs.declared.Format.{Format}
 use Rattle.channels.specs.declared.Format.the-variants.{Full, Compact}
 use Rattle.channels.specs.declared.Stored.{Stored}
@@ -79,6 +79,17 @@ module _ (format : Format) (signed : Bool) (v : ℤ) (h : SFits w32 v) where
   sum z e =
       let f = offset-fits format signed in
       rw (e, toZ-ofZ w32 v h, toZ-ofZ w64 v (wide v h), toZ-ofZ w32 _ f, toZ-ofZ w64 _ (wide _ f))
+
+-- how far a number that fits is above the least of its kind: no bits are lost
+within : (m : ℕ) → m ≤ 65536 → (z : ℤ) → T (nonNeg z && ltZ z (pos m)) → SFits w32 z × (T (nonNeg z) × Fits w16 (natAbs z))
+within m l (pos n) h = let g = ltb→lt n m h in (record { sfits = omega arith }, (tt, record { fits = omega arith }))
+within m l (negsuc n) h = absurd h
+
+pub above-fits : (format : Format) (signed : Bool) (v : ℤ) → T (fits (widthOf format) signed v)
+    → SFits w32 (v -ℤ valueOf (widthOf format) signed 0)
+    × (T (nonNeg (v -ℤ valueOf (widthOf format) signed 0)) × Fits w16 (natAbs (v -ℤ valueOf (widthOf format) signed 0)))
+unfolding fits
+above-fits format signed v h = rw (stored-above (widthOf format) signed v) (within (256 ^ widthOf format) (limit format) _ h)
 
 -- the tests for a number that is too small or too large, and the cast of one that is neither
 judged : (m : ℕ) (y : ℤ) (s t : Bool) → ltZ y (pos 0) ≡ s → leZ (pos m) y ≡ t → (nonNeg y && ltZ y (pos m)) ≡ (not s && not t)

@@ -5,7 +5,7 @@ use Prim.Native.Nat.{ℕ, zero, suc, _-_, _/_, _^_, _<_}
 use native.Mathlib.Nat.{one-le-pow}
 use native.Mathlib.Omega.{arith}
 use lib.Dec.{T, ltb→lt, lt→ltb, leb·zero, leb·suc-zero, leb·suc-suc}
-use lib.IntN.{ℤ, pos, negsuc, natAbs, sucℤ, _+ℤ_, _-ℤ_, -ℤ-+ℤ-cancel, +ℤ-negℤ-cancel, +ℤ-idr, +ℤ-sucℤ}
+use lib.IntN.{ℤ, pos, negsuc, natAbs, sucℤ, negℤ, _+ℤ_, _-ℤ_, -ℤ-+ℤ-cancel, +ℤ-negℤ-cancel, +ℤ-idl, +ℤ-idr, +ℤ-sucℤ, negℤ-negℤ}
 use lib.Signed.{nonNeg, leZ, ltZ}
 use Rattle.channels.specs.declared.Stored.{Stored}
 use Rattle.channels.specs.declared.Stored.the-variants.{Number, Outside}
@@ -53,6 +53,11 @@ module _ (w : ℕ) (signed : Bool) where
   pub value-stored : (v : ℤ) → T (fits w signed v) → valueOf w signed (storedOf w signed v) ≡ v
   unfolding fits storedOf valueOf
   value-stored v h = ap (λ z. z -ℤ offset w signed) (below (v +ℤ offset w signed) h .1) ∙ +ℤ-negℤ-cancel v (offset w signed)
+
+  -- what is stored for a number is how far it is above the least
+  pub stored-above : (v : ℤ) → v -ℤ valueOf w signed 0 ≡ v +ℤ offset w signed
+  unfolding valueOf
+  stored-above v = ap (λ z. v -ℤ z) (+ℤ-idl (negℤ (offset w signed))) ∙ ap (λ z. v +ℤ z) (negℤ-negℤ (offset w signed))
 
 -- ---- The ranges
 

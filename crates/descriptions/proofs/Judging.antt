@@ -1,4 +1,4 @@
--- Facts of a description that is judged: a test of the sixteen channels, one at a time; two tests that are made in one look; a number that is zero; and one that can be stored.
+-- Facts of a description that is judged: a number that is zero; two tests that are made in one look; and a test of the sixteen channels, one at a time.
 use mathlib.Core.Path.{_≡_, refl, sym, ap, _∙_}
 use mathlib.Core.Bool.{Bool, true, false, not, cond, _&&_, _||_, and-false, and-assoc}
 use mathlib.Core.List.{List, [], _∷_}
@@ -13,36 +13,16 @@ use lib.Seq.{drop-cons}
 use lib.Signed.{leZ}
 use mir.Syntax.{w32}
 use mir.Val.{SFits, ofZ}
-use Rattle.formats.specs.Bytes.{impossible}
 use Rattle.channels.specs.Channel.{signedOf}
-use Rattle.channels.specs.Stored.{valueOf, fits, storedOf, storedIf, between}
+use Rattle.channels.specs.Stored.{valueOf, fits, between}
 use Rattle.channels.specs.declared.Attribute.{Attribute}
 use Rattle.channels.specs.declared.Descriptor.{Descriptor}
-use Rattle.channels.specs.declared.Stored.the-variants.{Number, Outside}
 use Rattle.descriptions.specs.Description.{absent, flagless, tidyAttribute, tidyDescriptor, fitsAttribute, fitsDescriptor, every}
 
 -- the bits of a number are zero where the number is
 pub zero-bits : (z : ℤ) → SFits w32 z → eqb (ofZ w32 z) 0 ≡ eqb (natAbs z) 0
 zero-bits (pos n) h = refl
 zero-bits (negsuc n) h = ne-eqb (2 ^ 32 - suc n) 0 (λ e. omega (arith, h .sfits)) ∙ sym (ne-eqb (suc n) 0 (λ e. omega arith))
-
--- what `stored_of` says of a number
-module _ (w : ℕ) (signed : Bool) (v : ℤ) where
-  pub stored-found : {n : ℕ} → storedIf w signed v ≡ Number n → (fits w signed v ≡ true) × (n ≡ storedOf w signed v)
-  unfolding storedIf
-  stored-found {n} e = go (fits w signed v) refl e
-    where
-      go : (t : Bool) → fits w signed v ≡ t → cond t (Number (storedOf w signed v)) Outside ≡ Number n → (fits w signed v ≡ true) × (n ≡ storedOf w signed v)
-      go true h q = (h, cc)
-      go false h q = impossible (cc)
-
-  pub stored-outside : storedIf w signed v ≡ Outside → fits w signed v ≡ false
-  unfolding storedIf
-  stored-outside e = go (fits w signed v) refl e
-    where
-      go : (t : Bool) → fits w signed v ≡ t → cond t (Number (storedOf w signed v)) Outside ≡ Outside → fits w signed v ≡ false
-      go true h q = impossible (cc)
-      go false h q = h
 
 -- ---- Two tests in one look
 

@@ -6,6 +6,7 @@ use Prim.Native.Nat.{ℕ, zero, suc, _+_, _*_, _/_, _%_, _≤_, _<_}
 use native.Mathlib.Numerals.{add-one}
 use native.Mathlib.Omega.{arith}
 use lib.Dec.{T}
+use lib.IntN.{ℤ}
 use lib.ListN.{length, drop, getD, drop-of-length-le, length-append}
 use lib.Seq.{drop-cons}
 use Rattle.formats.specs.Ascend.{ascend}
@@ -13,7 +14,7 @@ use Rattle.formats.specs.Laid.{Room, Laid, laid-more, room-rest}
 use Rattle.formats.specs.Number.{digits, length-digits}
 use Rattle.formats.specs.Writes.{encodeEach}
 use Rattle.channels.specs.Channel.{channels, signedOf}
-use Rattle.channels.specs.Stored.{storedOf, fits}
+use Rattle.channels.specs.Stored.{valueOf, storedOf, fits}
 use Rattle.channels.specs.declared.Attribute.{Attribute}
 use Rattle.channels.specs.declared.Descriptor.{Descriptor}
 use Rattle.descriptions.specs.Description.{absent, encodeAttribute, encodeDescriptor, encodeChannel, fitsAttribute, fitsDescriptor}
@@ -54,13 +55,15 @@ module _ (w : ℕ) (signed : Bool) (a : Attribute) where
       go true = length-digits w (storedOf w signed (a .number))
       go false = refl
 
--- it is laid behind what was laid, with the sign that code found
-module _ {s : List ℕ} {start : ℕ} {b t : List ℕ} {at : ℕ} (l : Laid s start b t at) (w : ℕ) {found signed : Bool} (e : found ≡ signed) (a : Attribute) where
-  pub attribute-ready : T (fitsAttribute w signed a) → Room s start (b ++ encodeAttribute w signed a) → T (fitsAttribute w found a) × Room t at (encodeAttribute w found a)
-  attribute-ready f r = rw e (f, room-rest l r)
+-- it is laid behind what was laid, from the least number of its kind
+module _ {s : List ℕ} {start : ℕ} {b t : List ℕ} {at : ℕ} (l : Laid s start b t at) (w : ℕ) (signed : Bool) {least : ℤ} (e : least ≡ valueOf w signed 0) (a : Attribute) where
+  pub attribute-ready : T (fitsAttribute w signed a) → Room s start (b ++ encodeAttribute w signed a)
+      → (sign : Bool) × (least ≡ valueOf w sign 0) × T (fitsAttribute w sign a) × Room t at (encodeAttribute w sign a)
+  attribute-ready f r = (signed, e, f, room-rest l r)
 
-  pub attribute-laid : {u : List ℕ} {end : ℕ} → Laid t at (encodeAttribute w found a) u end → Laid s start (b ++ encodeAttribute w signed a) u end
-  attribute-laid k = laid-more l (rw e at k)
+  pub attribute-laid : {u : List ℕ} {end : ℕ} → ((sign : Bool) → least ≡ valueOf w sign 0 → Laid t at (encodeAttribute w sign a) u end)
+      → Laid s start (b ++ encodeAttribute w signed a) u end
+  attribute-laid k = laid-more l (k signed e)
 
 -- ---- A channel
 

@@ -1,5 +1,6 @@
 -- `descriptions::put_channel` meets its contract: a channel that is included has its descriptor, any other nothing.
 use mathlib.Core.Path.{_≡_}
+use Prim.Native.Nat.{ℕ}
 use borrow.Author.Needs.{needs}
 use borrow.Author.Tests.{not-true, not-false}
 use Rattle.formats.specs.Laid.{laid-none}
@@ -10,28 +11,28 @@ use Rattle.descriptions.proofs.put_channel.Statement.{statement}
 use Rattle.descriptions.proofs.put_channel.Tie as tie
 
 returns : tie.Need-returns
-returns c =
+returns c channel e =
     let a = c .before .before .before .args in
-    rw (channel-none (widthOf (a .format)) (a .channel) (a .d) (not-true (a .d .included) (c .if1 .taken))) (laid-none _ _)
+    rw (channel-none (widthOf (a .format)) channel (a .d) (not-true (a .d .included) (c .if1 .taken))) (laid-none _ _)
 
-included : (c : tie.Else1)
-    → encodeChannel (widthOf (c .before .before .before .args .format)) (c .before .before .before .args .channel) (c .before .before .before .args .d)
-    ≡ encodeDescriptor (widthOf (c .before .before .before .args .format)) (c .before .before .before .args .channel) (c .before .before .before .args .d)
-included c = channel-included _ _ _ (not-false (c .before .before .before .args .d .included) (c .if1 .left))
+included : (c : tie.Else1) (channel : ℕ)
+    → encodeChannel (widthOf (c .before .before .before .args .format)) channel (c .before .before .before .args .d)
+    ≡ encodeDescriptor (widthOf (c .before .before .before .args .format)) channel (c .before .before .before .args .d)
+included c channel = channel-included _ _ _ (not-false (c .before .before .before .args .d .included) (c .if1 .left))
 
 put-descriptor-requires : tie.Need-put-descriptor-requires
 put-descriptor-requires c κs =
     let e = c .before in
-    let s = e .before .before .before in
-    (s .pre .0, rw (included e) at (s .pre .1))
+    let p = e .before .before .before .pre in
+    (p .0, p .1, p .2, rw (included e (p .0)) at (p .3))
 
 same-length : tie.Need-same-length
 same-length c = search needs
 
 returns-2 : tie.Need-returns-2
-returns-2 c =
+returns-2 c channel e =
     let p = c .before .before in
-    rw (included (p .before .before)) (p .put-descriptor .ensures)
+    rw (included (p .before .before) channel) (p .put-descriptor .ensures channel e)
 
 pub put-channel-spec : {M : Type 1} → statement M
 put-channel-spec = tie.close (tie.spec returns put-descriptor-requires same-length returns-2)

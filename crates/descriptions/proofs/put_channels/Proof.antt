@@ -1,6 +1,7 @@
 -- `descriptions::put_channels` meets its contract. The invariant: what is left to lay from here makes of these bytes what the sixteen make of those
 -- at the start. The measure is the number of channels left.
-use mathlib.Core.Path.{_≡_}
+use mathlib.Core.Path.{_≡_, ap}
+use mathlib.Core.Bool.{false}
 use mathlib.Core.List.{_++_}
 use Prim.Native.Nat.{_+_, _≤_, _-_}
 use native.Mathlib.Omega.{arith}
@@ -9,7 +10,7 @@ use lib.Dec.{T}
 use lib.ListN.{length, drop, getD, length-map}
 use Rattle.formats.specs.Laid.{Owed, room-first, owed-all, owed-room, owed-next, owed-none}
 use Rattle.formats.specs.Writes.{encodeEach}
-use Rattle.channels.specs.Channel.{channels, widthOf}
+use Rattle.channels.specs.Channel.{channels, signedOf, widthOf}
 use Rattle.descriptions.specs.Description.{absent, encodeChannel, fitsDescriptor, allFit, every}
 use Rattle.descriptions.proofs.Judging.{every-holds}
 use Rattle.descriptions.proofs.Laying.{left, left-next, left-none}
@@ -17,20 +18,23 @@ use Rattle.descriptions.proofs.put_channels.Statement.{statement}
 use Rattle.descriptions.proofs.put_channels.Tie as tie
 
 abbrev Inv-loop : tie.InvT-loop
-Inv-loop out₀ start format description at₀ i₀ out at i =
+Inv-loop out₀ start format description signs at₀ i₀ out at i =
     (i ≤ 16)
     × T (every (fitsDescriptor (widthOf format)) i (drop i (description .channels)))
     × Owed out₀ start (encodeEach (encodeChannel (widthOf format)) channels (description .channels)) out at (left (widthOf format) (description .channels) i)
 
 abbrev μ-loop : tie.MeasureT-loop
-μ-loop out₀ start format description at₀ i₀ out at i = 16 - i
+μ-loop out₀ start format description signs at₀ i₀ out at i = 16 - i
 
 sixteen : (s : tie.Start Inv-loop μ-loop) → length (s .args .t3 .channels) ≡ 16
 sixteen s = simp length-map at (s .good .1 .1 .0 .1 .1 .0 .1 .0 .1)
 
+signs-requires : tie.Need-signs-requires Inv-loop μ-loop
+signs-requires c κs = search needs
+
 loop-holds : tie.Need-loop-holds Inv-loop μ-loop
 unfolding allFit left
-loop-holds c = (omega arith, c .before .pre .0, owed-all _ _ _)
+loop-holds c = (omega arith, c .before .before .pre .0, owed-all _ _ _)
 
 mul-d : tie.Need-mul-d Inv-loop μ-loop
 mul-d c = search needs
@@ -38,10 +42,17 @@ mul-d c = search needs
 element-copy-out-d : tie.Need-element-copy-out-d Inv-loop μ-loop
 element-copy-out-d c = search needs
 
+array-read-put-channel : tie.Need-array-read-put-channel Inv-loop μ-loop
+array-read-put-channel c = search needs
+
 -- this channel and those behind it: their numbers fit, and their bytes are what is left
 module _ (c : tie.In-loop Inv-loop μ-loop) where
   abbrev start : tie.Start Inv-loop μ-loop
-  start = c .before .before .before
+  start = c .before .before .before .before
+
+  sign : getD (c .before .before .signs .result) (c .before .loop .i) false ≡ signedOf (c .before .loop .i)
+  unfolding signedOf
+  sign = ap (λ signs. getD signs (c .before .loop .i) false) (c .before .before .signs .ensures)
 
   fitting : T (fitsDescriptor (widthOf (start .args .format)) (c .before .loop .i) (getD (start .args .t3 .channels) (c .before .loop .i) absent))
       × T (every (fitsDescriptor (widthOf (start .args .format))) (c .before .loop .i + 1) (drop (c .before .loop .i + 1) (start .args .t3 .channels)))
@@ -60,7 +71,7 @@ module _ (c : tie.In-loop Inv-loop μ-loop) where
 put-channel-requires : tie.Need-put-channel-requires Inv-loop μ-loop
 put-channel-requires c κs =
     let l = c .before .before in
-    (fitting l .0, room-first _ _ (owed-room (owed l) (start l .pre .1)))
+    (l .before .loop .i, sign l, fitting l .0, room-first _ _ (owed-room (owed l) (start l .pre .1)))
 
 add-i : tie.Need-add-i Inv-loop μ-loop
 add-i c = search needs
@@ -72,7 +83,7 @@ loop-again : tie.Need-loop-again Inv-loop μ-loop
 loop-again c =
     let p = c .before .before in
     let l = p .before .before .before in
-    (omega arith, fitting l .1, owed-next (owed l) (p .put-channel .ensures))
+    (omega arith, fitting l .1, owed-next (owed l) (p .put-channel .ensures (l .before .loop .i) (sign l)))
 
 same-length : tie.Need-same-length Inv-loop μ-loop
 same-length c = c .before .loop .inv .2 .kept
@@ -80,7 +91,7 @@ same-length c = c .before .loop .inv .2 .kept
 returns : tie.Need-returns Inv-loop μ-loop
 returns c =
     let l = c .before in
-    let a = l .before .before .args in
+    let a = l .before .before .before .args in
     owed-none (rw (left-none (widthOf (a .format)) (a .t3 .channels) (l .loop .i) (c .loop-test .left)) at (l .loop .inv .2))
 
 pub put-channels-spec : {M : Type 1} → statement M
@@ -89,9 +100,11 @@ put-channels-spec =
     (tie.spec
     Inv-loop
     μ-loop
+    signs-requires
     loop-holds
     mul-d
     element-copy-out-d
+    array-read-put-channel
     put-channel-requires
     add-i
     loop-less

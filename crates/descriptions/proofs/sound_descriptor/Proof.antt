@@ -1,7 +1,7 @@
 -- `descriptions::sound_descriptor` meets its contract: what it asks in turn is both tests of each attribute, and so the first of all and the second of all.
 use mathlib.Core.Path.{_≡_, refl, sym, ap, _∙_}
 use mathlib.Core.Logic.{⊎-elim}
-use mathlib.Core.Bool.{Bool, false, _&&_, _||_}
+use mathlib.Core.Bool.{false, _||_}
 use Prim.Native.Nat.{ℕ, _-_, _^_}
 use native.Mathlib.Omega.{arith}
 use borrow.Author.Needs.{needs}
@@ -11,8 +11,8 @@ use mir.Val.{toZ, ofZ}
 use mir.ValLaws.{toZ-pos, toZ-ofZ}
 use Rattle.channels.specs.Channel.{widthOf, signedOf}
 use Rattle.channels.specs.Stored.{offset, valueOf}
-use Rattle.descriptions.specs.Description.{flagless, tidyAttribute, tidyDescriptor, fitsAttribute, fitsDescriptor}
-use Rattle.descriptions.proofs.Judging.{toFlags, toScaling, toMinimum, toMaximum, toMean, toDeviation, all-asked, asked, not-asked}
+use Rattle.descriptions.specs.Description.{flagless}
+use Rattle.descriptions.proofs.Judging.{toFlags, toScaling, toMinimum, toMaximum, toMean, all-asked, asked, not-asked}
 use Rattle.descriptions.proofs.sound_descriptor.Statement.{statement}
 use Rattle.descriptions.proofs.sound_descriptor.Tie as tie
 
