@@ -29,13 +29,19 @@ returns c =
 given : (c : tie.Else1) → c .before .before .args .flag ≡ true
 given c = not-false _ (c .if1 .left)
 
+width-requires : tie.Need-width-requires
+width-requires c κs = search needs
+
+add-next : tie.Need-add-next
+add-next c = search needs
+
 number-at-requires : tie.Need-number-at-requires
-number-at-requires c κs = rw (given c) at (c .before .before .pre .1)
+number-at-requires c κs = let e = c .before in rw (given e) at (e .before .before .pre .1)
 
 -- as the machine has it, and as it is meant
 module _ (m : tie.After-number-at) where
   abbrev start : tie.Start
-  start = m .before .before .before
+  start = m .before .before .before .before
 
   sum : toZ w32 (ofZ w32 (start .args .least)) +ℤ toZ w32 (m .number-at .result) ≡ start .args .least +ℤ pos (m .number-at .result)
   sum = rw (toZ-ofZ w32 (start .args .least) (start .fits .least), toZ-pos w32 (m .number-at .result) (omega arith))
@@ -57,49 +63,16 @@ cast-number c = search needs
 add-number : tie.Need-add-number
 add-number c = rw (sum c) (fits c)
 
-enum-told : tie.Need-enum-told
-enum-told c = search needs
-
-add-next : tie.Need-add-next
-add-next c = search needs
-
-enum-told-2 : tie.Need-enum-told-2
-enum-told-2 c = search needs
-
-add-next-2 : tie.Need-add-next-2
-add-next-2 c = search needs
-
 returns-2 : tie.Need-returns-2
-unfolding widthOf
 returns-2 c =
-    let m = c .before .before in
-    let a = start m .args in
-    let z : a .at + widthOf (a .format) ≡ a .at + 2 = ap (λ f. a .at + widthOf f) (c .enum-told .given .1) in (
-      λ signed e. attribute-given _ signed _ _ _ (given (m .before)) (meant m signed e) (m .number-at .ensures) z,
-      sym (ap (λ x. a .at + cond x (widthOf (a .format)) 0) (given (m .before)) ∙ z),
-    )
-
-returns-3 : tie.Need-returns-3
-unfolding widthOf
-returns-3 c =
-    let m = c .before .before in
-    let a = start m .args in
-    let z : a .at + widthOf (a .format) ≡ a .at + 1 = ap (λ f. a .at + widthOf f) (c .enum-told2 .given .1) in (
-      λ signed e. attribute-given _ signed _ _ _ (given (m .before)) (meant m signed e) (m .number-at .ensures) z,
-      sym (ap (λ x. a .at + cond x (widthOf (a .format)) 0) (given (m .before)) ∙ z),
+    let v = c .before in
+    let a = start c .args in
+    let z = ap (λ k. a .at + k) (sym (v .width .ensures .0)) in (
+      λ signed e. attribute-given _ signed _ _ _ (given (v .before)) (meant c signed e) (c .number-at .ensures) z,
+      sym (ap (λ x. a .at + cond x (widthOf (a .format)) 0) (given (v .before)) ∙ z),
     )
 
 pub attribute-at-spec : {M : Type 1} → statement M
 attribute-at-spec =
     tie.close
-    (tie.spec
-    returns
-    number-at-requires
-    cast-number
-    add-number
-    enum-told
-    add-next
-    enum-told-2
-    add-next-2
-    returns-2
-    returns-3)
+    (tie.spec returns width-requires add-next number-at-requires cast-number add-number returns-2)

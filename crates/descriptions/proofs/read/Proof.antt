@@ -3,14 +3,13 @@
 use mathlib.Core.Path.{_≡_, refl, sym, ap, _∙_}
 use mathlib.Core.Bool.{true, false}
 use mathlib.Core.List as list
+use mathlib.Core.Logic.{⊎-elim}
 use Prim.Native.Nat.{ℕ, _≤_, _-_}
 use native.Mathlib.Omega.{arith}
 use borrow.Author.Needs.{needs}
-use borrow.Author.Tests.{not-true, not-false}
 use lib.ListN.{getD}
 use Rattle.formats.specs.Reader.{ok, readAt}
 use Rattle.formats.specs.Told.{told}
-use Rattle.formats.specs.declared.Outcome.the-variants.{Done}
 use Rattle.channels.specs.Channel.{widthOf, signedOf}
 use Rattle.descriptions.specs.Description.{includes, isStored, description}
 use Rattle.descriptions.specs.Read.{nothing, described, channelsFrom}
@@ -20,11 +19,11 @@ use Rattle.descriptions.proofs.read.Statement.{statement}
 use Rattle.descriptions.proofs.read.Tie as tie
 
 abbrev Inv-loop : tie.InvT-loop
-Inv-loop s start format descriptors₀ stored₀ outcome₀ first signs inclusion at₀ channel₀ descriptors stored outcome at channel =
-    (channel ≤ 16) × (outcome ≡ Done at) × (Gone (widthOf format) inclusion s first descriptors channel at) × (stored ≡ list.map isStored descriptors)
+Inv-loop s start format descriptors₀ stored₀ first signs inclusion at₀ channel₀ descriptors stored at channel =
+    (channel ≤ 16) × Gone (widthOf format) inclusion s first descriptors channel at × (stored ≡ list.map isStored descriptors)
 
 abbrev μ-loop : tie.MeasureT-loop
-μ-loop s start format descriptors₀ stored₀ outcome₀ first signs inclusion at₀ channel₀ descriptors stored outcome at channel =
+μ-loop s start format descriptors₀ stored₀ first signs inclusion at₀ channel₀ descriptors stored at channel =
     16 - channel
 
 -- what the whole answers, behind the inclusion bytes
@@ -42,14 +41,14 @@ module _ (k : tie.After-outcome Inv-loop μ-loop) where
 -- a channel that is included
 included : (d : tie.After-descriptor-end Inv-loop μ-loop) → let i = d .before .before in
     includes (opened (i .before .before .before .before .before) .opening-at .result .inclusion) (i .before .before .loop .channel) ≡ true
-included d = sym (d .before .before .includes .ensures) ∙ not-false _ (d .before .if1 .left)
+included d = sym (d .before .before .includes .ensures) ∙ d .before .if1 .taken
 
 -- a descriptor that is there, and how its channel is signed
-there : (e : tie.After-outcome2 Inv-loop μ-loop) → let d = e .before .before in
+there : (e : tie.After-end Inv-loop μ-loop) → let d = e .before .before in
     let l = d .before .before .before .before in
     let a = start (l .before .before .before) .args in
-    (channel : ℕ) → Whole (widthOf (a .format)) channel (a .s .now) (l .loop .at) (e .outcome2 .given .0 .0)
-there e channel = descriptor-whole _ channel _ _ (sym (e .outcome2 .given .1) ∙ e .before .before .descriptor-end .ensures channel)
+    (channel : ℕ) → Whole (widthOf (a .format)) channel (a .s .now) (l .loop .at) (e .end .given .0 .0)
+there e channel = descriptor-whole _ channel _ _ (sym (e .end .given .1) ∙ e .before .before .descriptor-end .ensures channel)
 
 opening-at-requires : tie.Need-opening-at-requires Inv-loop μ-loop
 opening-at-requires c κs = search needs
@@ -61,28 +60,26 @@ signs-requires : tie.Need-signs-requires Inv-loop μ-loop
 signs-requires c κs = search needs
 
 loop-holds : tie.Need-loop-holds Inv-loop μ-loop
-loop-holds c = (omega arith, refl, gone-none _ _ _ _, refl)
+loop-holds c = (omega arith, gone-none _ _ _ _, refl)
 
 includes-requires : tie.Need-includes-requires Inv-loop μ-loop
 includes-requires c κs = search needs
 
-add-channel : tie.Need-add-channel Inv-loop μ-loop
-add-channel c = search needs
-
-loop-less : tie.Need-loop-less Inv-loop μ-loop
-loop-less c = search needs
-
-loop-again : tie.Need-loop-again Inv-loop μ-loop
-loop-again c =
-    let t = c .before .before in
-    let l = t .before .loop in
-    (omega arith, l .inv .1, gone-absent _ _ _ _ _ _ _ (l .inv .2) (t .loop-test .taken) (sym (c .before .includes .ensures) ∙ not-true _ (c .if1 .taken)), l .inv .3)
-
 descriptor-end-requires : tie.Need-descriptor-end-requires Inv-loop μ-loop
 descriptor-end-requires c κs = search needs
 
-enum-known-outcome-2 : tie.Need-enum-known-outcome-2 Inv-loop μ-loop
-enum-known-outcome-2 c = search needs
+enum-known-end : tie.Need-enum-known-end Inv-loop μ-loop
+enum-known-end c = search needs
+
+returns : tie.Need-returns Inv-loop μ-loop
+unfolding nothing
+returns c =
+    let d = c .before in
+    let t = d .before .before .before in
+    let l = t .before in
+    let q = not-done (d .descriptor-end .result) (c .match2 .keys2) in
+    let e = gone-no-further _ _ _ _ _ _ _ (l .loop .inv .1) (t .loop-test .taken) (included d) _ q (d .descriptor-end .ensures _) in
+    described-ended _ _ q (e ∙ ap told (sym (whole (l .before .before .before))))
 
 array-read-descriptor-at : tie.Need-array-read-descriptor-at Inv-loop μ-loop
 array-read-descriptor-at c = search needs
@@ -102,43 +99,39 @@ is-stored-requires c κs = search needs
 array-write-stored : tie.Need-array-write-stored Inv-loop μ-loop
 array-write-stored c = search needs
 
-add-channel-2 : tie.Need-add-channel-2 Inv-loop μ-loop
-add-channel-2 c = search needs
+add-channel : tie.Need-add-channel Inv-loop μ-loop
+add-channel c = search needs
 
-loop-less-2 : tie.Need-loop-less-2 Inv-loop μ-loop
-loop-less-2 c = search needs
+loop-less : tie.Need-loop-less Inv-loop μ-loop
+loop-less c = search needs
 
-loop-again-2 : tie.Need-loop-again-2 Inv-loop μ-loop
+loop-again : tie.Need-loop-again Inv-loop μ-loop
 unfolding signedOf
-loop-again-2 c =
-    let a = c .before in
-    let e = a .before .before in
-    let d = e .before .before in
-    let t = d .before .before .before in
+loop-again c =
+    let i = c .before in
+    let t = i .before in
     let l = t .before .loop in
+    ⊎-elim
+    (λ w.
+    let d : tie.After-descriptor-end Inv-loop μ-loop = record { before = record { before = i; if1 = w .0 }; descriptor-end = w .1 } in
+    let e : tie.After-end Inv-loop μ-loop = record { before = record { before = d; match2 = w .2 }; end = w .3 } in
     let sign = ap (λ x. getD x (l .channel) false) (t .before .before .signs .ensures) in
-    let f = a .descriptor-at .ensures (l .channel) sign ∙ ap (ok (a .descriptor-at .result)) (sym (there e (l .channel) .end)) in (
+    let f = w .5 .ensures (l .channel) sign ∙ ap (ok (w .5 .result)) (sym (there e (l .channel) .end)) in
+    rw (w .7, w .8, w .9) (
       omega arith,
-      refl,
-      gone-on _ _ _ _ _ _ _ (l .inv .2) (t .loop-test .taken) (included d) f,
-      rw (l .inv .3, c .is-stored .ensures) (map-set isStored (l .descriptors) (l .channel) (a .descriptor-at .result)),
-    )
-
-returns : tie.Need-returns Inv-loop μ-loop
-unfolding described
-returns c =
-    let l = c .before in
-    rw (l .loop .inv .1, l .loop .inv .3, whole (l .before .before .before), gone-all _ _ _ _ _ _ _ (l .loop .inv .2) (c .loop-test .left))
+      gone-on _ _ _ _ _ _ _ (l .inv .1) (t .loop-test .taken) (included d) f,
+      rw (l .inv .2, w .6 .ensures) (map-set isStored (l .descriptors) (l .channel) (w .5 .result)),
+    ))
+    (λ w.
+    rw (w .1, w .2, w .3)
+    (omega arith, gone-absent _ _ _ _ _ _ _ (l .inv .1) (t .loop-test .taken) (sym (i .includes .ensures) ∙ w .0 .left), l .inv .2))
+    (c .if1 .came)
 
 returns-2 : tie.Need-returns-2 Inv-loop μ-loop
-unfolding nothing
+unfolding described
 returns-2 c =
-    let d = c .before in
-    let t = d .before .before .before in
-    let l = t .before in
-    let q = not-done (d .descriptor-end .result) (c .match2 .keys2) in
-    let e = gone-no-further _ _ _ _ _ _ _ (l .loop .inv .2) (t .loop-test .taken) (included d) _ q (d .descriptor-end .ensures _) in
-    described-ended _ _ q (e ∙ ap told (sym (whole (l .before .before .before))))
+    let l = c .before in
+    rw (l .loop .inv .2, whole (l .before .before .before), gone-all _ _ _ _ _ _ _ (l .loop .inv .1) (c .loop-test .left))
 
 returns-3 : tie.Need-returns-3 Inv-loop μ-loop
 unfolding nothing
@@ -158,20 +151,17 @@ read-spec =
     signs-requires
     loop-holds
     includes-requires
-    add-channel
-    loop-less
-    loop-again
     descriptor-end-requires
-    enum-known-outcome-2
+    enum-known-end
+    returns
     array-read-descriptor-at
     descriptor-at-requires
     mul-descriptors
     array-set-from-descriptors
     is-stored-requires
     array-write-stored
-    add-channel-2
-    loop-less-2
-    loop-again-2
-    returns
+    add-channel
+    loop-less
+    loop-again
     returns-2
     returns-3)
