@@ -17,10 +17,10 @@ ghost use Rattle.templates.specs.Writing.{writtenNumber, byFlaw, exceeds
 ghost use Rattle.descriptions.specs.Read.{nothing};
 
 // What a template says: a description of channels if it has one, and the largest number of points if it names one.
-// What it doesn't have is zeros here.
+// What it doesn't have is zeros here. The description stands first, where no gap comes before it: so it is copied whole.
 pub struct Template {
-    pub described: bool,
     pub description: Description,
+    pub described: bool,
     pub limited: bool,
     pub maximum: u32,
 }
