@@ -110,8 +110,9 @@ pub extern "C" fn costs_describe(bytes: &[u8], compact: bool, channel: usize) ->
         Format::Full
     };
     let described = descriptions::read(bytes, 0, format);
+    let description = described.description;
     let of = channel % 16;
-    let d = described.description.channels[of];
+    let d = description.channels[of];
     let said = said_of(d);
     let outcome = described.outcome;
     match outcome {
