@@ -1,12 +1,13 @@
 -- Code that writes: strings laid into a lent slice one behind the other, and where each ends.
 use mathlib.Core.Path.{_≡_, refl, sym, ap, _∙_}
 use mathlib.Core.List.{List, [], _∷_, _++_}
-use Prim.Native.Nat.{ℕ, _+_, _≤_, _<_}
+use Prim.Native.Nat.{ℕ, _+_, _-_, _≤_, _<_}
 use native.Mathlib.Numerals.{add-one}
 use native.Mathlib.Omega.{arith}
-use lib.ListN.{length, drop, getD, set, length-append, drop-of-length-le}
-use lib.Seq.{drop-cons}
+use lib.ListN.{length, take, drop, getD, set, length-append, drop-of-length-le}
+use lib.Seq.{drop-cons, take-all}
 use Rattle.formats.specs.Put.{puts, length-puts, puts-append}
+use Rattle.formats.specs.Lent.{Writing, writing}
 
 -- there is room for b in s from a place on
 pub record Room (s : List ℕ) (at : ℕ) (b : List ℕ) : Type 0 where
@@ -16,6 +17,10 @@ pub record Room (s : List ℕ) (at : ℕ) (b : List ℕ) : Type 0 where
 pub record Laid (s : List ℕ) (at : ℕ) (b t : List ℕ) (end : ℕ) : Type 0 where
   pub place : end ≡ at + length b
   pub bytes : t ≡ puts s at b
+
+-- as much of b as there is room for is put from a place on, and its end is answered
+abbrev pub putWithin : (s : List ℕ) (at : ℕ) (b : List ℕ) → Writing ℕ
+putWithin s at b = writing (at + length (take (length s - at) b)) (puts s at (take (length s - at) b))
 
 -- ---- One string behind the other
 
@@ -87,3 +92,15 @@ module _ {s : List ℕ} (start : ℕ) (b : List ℕ) {t : List ℕ} (i : ℕ) wh
 
   pub copied-all : length b ≤ i → Copied s start b t i → Laid s start b t (start + i)
   copied-all h o = owed-none (rw (drop-of-length-le b {i = i} h) at o)
+
+-- ---- As much as there is room for
+
+module _ {s : List ℕ} {at : ℕ} (b : List ℕ) {t : List ℕ} {end : ℕ} where
+  pub laid-within : Laid s at (take (length s - at) b) t end → writing end t ≡ putWithin s at b
+  laid-within l = rw (l .place, l .bytes)
+
+  -- which is all where there is room for all
+  pub within-laid : Room s at b → writing end t ≡ putWithin s at b → Laid s at b t end
+  within-laid h e =
+      let z : take (length s - at) b ≡ b = take-all (length s - at) b (omega (arith, h .enough)) in
+      record { place = rw z at (ap (λ w. w .answer) e); bytes = rw z at (ap (λ w. w .bytes) e) }

@@ -1,6 +1,8 @@
 // What a byte format is. Its theory is in specs/; the code of a format tells how reading it ended.
 ghost use mathlib.Core.Path.{_≡_};
 ghost use Prim.Native.Nat.{_+_, _*_, _/_, _%_};
+ghost use Rattle.formats.specs.Lent.{writing};
+ghost use Rattle.formats.specs.Laid.{putWithin};
 
 pub enum Outcome {
     // All is well: the place after what was read.
@@ -30,4 +32,25 @@ pub fn low(number: u32) -> u8
     ensures { λ r. ⌜ r ≡ number % 256 ⌝ }
 {
     (number % 256) as u8
+}
+
+// Bytes are put from a place of the output on, as many of them as there is room for. Where the next would go is answered.
+pub fn put(out: &mut [u8], start: usize, bytes: &[u8]) -> usize
+    ensures { λ r. ⌜ writing r (now (out .exit)) ≡ putWithin (now (out .entry)) start (now (bytes .entry)) ⌝ }
+{
+    if out.len() <= start {
+        return start;
+    }
+    let room = out.len() - start;
+    let count = if room < bytes.len() {
+        room
+    } else {
+        bytes.len()
+    };
+    let mut i: usize = 0;
+    while i < count {
+        out[start + i] = bytes[i];
+        i += 1;
+    }
+    start + i
 }

@@ -242,7 +242,7 @@ laid-five s at a b c d e =
 
 -- the refusal of a description that was put aside
 refusal : (r : Record) (w : Answer) (out : List ℕ) (f : Flaw) → (f ≡ flaw.None → ⊥) → writing (byFlaw f answers.Room) out ≡ putWhere r out (byFlaw f w)
-unfolding byFlaw putWhere
+unfolding putWhere
 refusal r w out flaw.None h = absurd (h refl)
 refusal r w out flaw.XOrY h = refl
 refusal r w out flaw.Untidy h = refl

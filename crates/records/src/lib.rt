@@ -947,19 +947,6 @@ fn put_points(
     at
 }
 
-// Bytes are put as they are.
-fn put_bytes(out: &mut [u8], start: usize, bytes: &[u8]) -> usize
-    requires { ⌜ Room (now out) start (now bytes) ⌝ }
-    ensures { λ r. ⌜ Laid (now (out .entry)) start (now (bytes .entry)) (now (out .exit)) r ⌝ }
-{
-    let mut i: usize = 0;
-    while i < bytes.len() {
-        out[start + i] = bytes[i];
-        i += 1;
-    }
-    start + i
-}
-
 // The header's reserved byte, the opening byte and the count are put.
 fn put_opening(out: &mut [u8], at: usize, wanted: bool, count: usize) -> usize
     requires { ⌜ (count < 16777216) × Room (now out) at (openingBytes wanted count) ⌝ }
@@ -980,9 +967,9 @@ fn put_front(out: &mut [u8], described: &[u8], wanted: bool, count: usize) -> us
 {
     let identifier = IDENTIFIER;
     let version = VERSION;
-    let at = put_bytes(out, 0, &identifier);
-    let at = put_bytes(out, at, &version);
-    let at = put_bytes(out, at, described);
+    let at = formats::put(out, 0, &identifier);
+    let at = formats::put(out, at, &version);
+    let at = formats::put(out, at, described);
     put_opening(out, at, wanted, count)
 }
 
@@ -995,7 +982,7 @@ fn put_extension(out: &mut [u8], at: usize, wanted: bool, extended: &[u8]) -> us
         return at;
     }
     let next = put_pair(out, at, extended.len() as u16);
-    put_bytes(out, next, extended)
+    formats::put(out, next, extended)
 }
 
 // How many bytes a record has that passed every stage but the last, by the size of its description and of a point.

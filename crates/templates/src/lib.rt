@@ -406,19 +406,6 @@ fn put_limited(out: &mut [u8], at: usize, limited: bool, maximum: u32) -> usize
     put_shortest(out, start, maximum)
 }
 
-// Bytes are put as they are.
-fn put_bytes(out: &mut [u8], start: usize, bytes: &[u8]) -> usize
-    requires { ⌜ Room (now out) start (now bytes) ⌝ }
-    ensures { λ r. ⌜ Laid (now (out .entry)) start (now (bytes .entry)) (now (out .exit)) r ⌝ }
-{
-    let mut i: usize = 0;
-    while i < bytes.len() {
-        out[start + i] = bytes[i];
-        i += 1;
-    }
-    start + i
-}
-
 // The field 81, where it is wanted, from the bytes of the description.
 fn put_described(out: &mut [u8], at: usize, described: bool, bytes: &[u8]) -> usize
     requires { ⌜ (length (now bytes) ≤ 114) × Room (now out) at (describedBytes described (now bytes)) ⌝ }
@@ -428,7 +415,7 @@ fn put_described(out: &mut [u8], at: usize, described: bool, bytes: &[u8]) -> us
         return at;
     }
     let start = put_head(out, at, 0x81, bytes.len());
-    put_bytes(out, start, bytes)
+    formats::put(out, start, bytes)
 }
 
 // The whole template, from the output's start on.

@@ -7,7 +7,7 @@ use Prim.Native.Nat.{_<_}
 use native.Mathlib.Omega.{arith}
 use lib.ListN.{length}
 use borrow.Author.Tests.{not-true, not-false}
-use Rattle.formats.specs.Laid.{Room, laid-none, laid-more, room-first, room-rest}
+use Rattle.formats.specs.Laid.{Room, laid-none, laid-more, room-first, room-rest, within-laid}
 use Rattle.formats.specs.Number.{digits}
 use Rattle.records.specs.Record.{encodeExtended}
 use Rattle.records.proofs.Laying.{wanted-room, wanted-laid}
@@ -39,8 +39,8 @@ cast-put-pair c = record { fits = omega (arith, small (c .before)) }
 put-pair-requires : tie.Need-put-pair-requires
 put-pair-requires c κs = room-first _ _ (room (c .before))
 
-put-bytes-requires : tie.Need-put-bytes-requires
-put-bytes-requires c κs = let p = c .before .before .before in room-rest (p .put-pair .ensures) (room (p .before .before))
+put-requires : tie.Need-put-requires
+put-requires c κs = search needs
 
 same-length : tie.Need-same-length
 same-length c = search needs
@@ -49,9 +49,11 @@ returns-2 : tie.Need-returns-2
 returns-2 c =
     let q = c .before .before in
     let p = q .before .before .before .before in
-    wanted-laid (start (p .before .before) .args .extended .now) (start (p .before .before) .args .wanted) (wanted (p .before .before)) (laid-more (p .put-pair .ensures) (q .put-bytes .ensures))
+    let w = p .before .before in
+    let l = within-laid _ (room-rest (p .put-pair .ensures) (room w)) (q .put .ensures) in
+    wanted-laid (start w .args .extended .now) (start w .args .wanted) (wanted w) (laid-more (p .put-pair .ensures) l)
 
 pub put-extension-spec : {M : Type 1} → statement M
 put-extension-spec =
     tie.close
-    (tie.spec returns cast-put-pair put-pair-requires put-bytes-requires same-length returns-2)
+    (tie.spec returns cast-put-pair put-pair-requires put-requires same-length returns-2)

@@ -3,7 +3,7 @@ use mathlib.Core.Path.{_≡_, refl}
 use native.Mathlib.Omega.{arith}
 use borrow.Author.Needs.{needs}
 use borrow.Author.Tests.{not-true, not-false}
-use Rattle.formats.specs.Laid.{Room, laid-none}
+use Rattle.formats.specs.Laid.{Room, laid-none, within-laid}
 use Rattle.templates.specs.Template.{field}
 use Rattle.templates.specs.Writing.{describedBytes}
 use Rattle.templates.proofs.Laying.{head-room, content-room, field-laid, described-none, described-field}
@@ -29,11 +29,8 @@ module _ (c : tie.Else1) where
 put-head-requires : tie.Need-put-head-requires
 put-head-requires c κs = let f = c .before in (omega (arith, start f .pre .0), head-room 0x81 (start f .args .bytes .now) refl (room f))
 
-put-bytes-requires : tie.Need-put-bytes-requires
-put-bytes-requires c κs =
-    let h = c .before .before .before in
-    let f = h .before .before in
-    content-room 0x81 (start f .args .bytes .now) refl (h .put-head .ensures) (room f)
+put-requires : tie.Need-put-requires
+put-requires c κs = search needs
 
 same-length : tie.Need-same-length
 same-length c = search needs
@@ -43,8 +40,9 @@ returns-2 c =
     let p = c .before .before in
     let h = p .before .before .before .before in
     let f = h .before .before in
-    rw (whole f) (field-laid 0x81 (start f .args .bytes .now) refl (h .put-head .ensures) (p .put-bytes .ensures))
+    let l = within-laid _ (content-room 0x81 (start f .args .bytes .now) refl (h .put-head .ensures) (room f)) (p .put .ensures) in
+    rw (whole f) (field-laid 0x81 (start f .args .bytes .now) refl (h .put-head .ensures) l)
 
 pub put-described-spec : {M : Type 1} → statement M
 put-described-spec =
-    tie.close (tie.spec returns put-head-requires put-bytes-requires same-length returns-2)
+    tie.close (tie.spec returns put-head-requires put-requires same-length returns-2)
