@@ -4,10 +4,10 @@ use mathlib.Core.Path.{_≡_, refl, sym, ap, _∙_}
 use mathlib.Core.Bool.{true}
 use mathlib.Core.List.{List}
 use mathlib.Core.List as list
+use mathlib.Core.Logic.{⊎-elim}
 use Prim.Native.Nat.{_≤_, _-_}
 use native.Mathlib.Omega.{arith}
 use borrow.Author.Needs.{needs}
-use borrow.Author.Tests.{not-true, not-false}
 use lib.ListN.{replicate, set}
 use Rattle.formats.specs.Reader.{readAt}
 use Rattle.formats.specs.Told.{told, told-done}
@@ -42,7 +42,7 @@ module _ (k : tie.After-outcome Inv-loop μ-loop) where
 -- a channel that is included
 included : (d : tie.After-descriptor-end Inv-loop μ-loop) → let i = d .before .before in
     includes (opened (i .before .before .before .before) .opening-at .result .inclusion) (i .before .before .loop .channel) ≡ true
-included d = sym (d .before .before .includes .ensures) ∙ not-false _ (d .before .if1 .left)
+included d = sym (d .before .before .includes .ensures) ∙ d .before .if1 .taken
 
 opening-at-requires : tie.Need-opening-at-requires Inv-loop μ-loop
 opening-at-requires c κs = search needs
@@ -65,18 +65,6 @@ loop-holds c = (omega arith, replicate 16 absent, gone-none _ _ _ _, refl, refl)
 
 includes-requires : tie.Need-includes-requires Inv-loop μ-loop
 includes-requires c κs = search needs
-
-add-channel : tie.Need-add-channel Inv-loop μ-loop
-add-channel c = search needs
-
-loop-less : tie.Need-loop-less Inv-loop μ-loop
-loop-less c = search needs
-
-loop-again : tie.Need-loop-again Inv-loop μ-loop
-loop-again c =
-    let t = c .before .before in
-    let l = t .before .loop in
-    (omega arith, l .inv .1, gone-absent _ _ _ _ _ _ _ (l .inv .2) (t .loop-test .taken) (sym (c .before .includes .ensures) ∙ not-true _ (c .if1 .taken)), l .inv .3, l .inv .4)
 
 descriptor-end-requires : tie.Need-descriptor-end-requires Inv-loop μ-loop
 descriptor-end-requires c κs = search needs
@@ -110,26 +98,33 @@ array-write-included c = search needs
 array-write-stored : tie.Need-array-write-stored Inv-loop μ-loop
 array-write-stored c = search needs
 
-add-channel-2 : tie.Need-add-channel-2 Inv-loop μ-loop
-add-channel-2 c = search needs
+add-channel : tie.Need-add-channel Inv-loop μ-loop
+add-channel c = search needs
 
-loop-less-2 : tie.Need-loop-less-2 Inv-loop μ-loop
-loop-less-2 c = search needs
+loop-less : tie.Need-loop-less Inv-loop μ-loop
+loop-less c = search needs
 
-loop-again-2 : tie.Need-loop-again-2 Inv-loop μ-loop
-loop-again-2 c =
-    let e = c .before .before in
-    let d = e .before .before in
-    let t = d .before .before .before in
+loop-again : tie.Need-loop-again Inv-loop μ-loop
+loop-again c =
+    let i = c .before in
+    let t = i .before in
     let l = t .before .loop in
-    let x = told-done _ (sym (e .end .given .1) ∙ d .descriptor-end .ensures (l .channel)) in
-    let f = descriptor-flags _ (l .channel) _ _ (x .1) in (
+    ⊎-elim
+    (λ w.
+    let d : tie.After-descriptor-end Inv-loop μ-loop = record { before = record { before = i; if1 = w .0 }; descriptor-end = w .1 } in
+    let x = told-done _ (sym (w .3 .given .1) ∙ w .1 .ensures (l .channel)) in
+    let f = descriptor-flags _ (l .channel) _ _ (x .1) in
+    rw (w .6, w .7, w .8) (
       omega arith,
       set (l .inv .1) (l .channel) (x .0),
       gone-on _ _ _ _ _ _ _ (l .inv .2) (t .loop-test .taken) (included d) (x .1),
       rw (l .inv .3, ← f .0) (map-set (λ c'. c' .included) (l .inv .1) (l .channel) (x .0)),
       rw (l .inv .4, ← f .1) (map-set isStored (l .inv .1) (l .channel) (x .0)),
-    )
+    ))
+    (λ w.
+    rw (w .1, w .2, w .3)
+    (omega arith, l .inv .1, gone-absent _ _ _ _ _ _ _ (l .inv .2) (t .loop-test .taken) (sym (i .includes .ensures) ∙ w .0 .left), l .inv .3, l .inv .4))
+    (c .if1 .came)
 
 returns-3 : tie.Need-returns-3 Inv-loop μ-loop
 unfolding measured
@@ -149,9 +144,6 @@ measure-spec =
     returns
     loop-holds
     includes-requires
-    add-channel
-    loop-less
-    loop-again
     descriptor-end-requires
     enum-known-end
     unmeasured-requires-2
@@ -159,7 +151,7 @@ measure-spec =
     shared-slice-read-byte
     array-write-included
     array-write-stored
-    add-channel-2
-    loop-less-2
-    loop-again-2
+    add-channel
+    loop-less
+    loop-again
     returns-3)
