@@ -1,11 +1,11 @@
 -- Numbers of 32 and 64 bits that hold a channel's number, its offset, and their sum.
 use mathlib.Core.Bool.{Bool, true, false, not, cond, _&&_}
-use mathlib.Core.Path.{_≡_, refl, sym, ap, _∙_}
-use Prim.Native.Nat.{ℕ, zero, suc, _+_, _-_, _/_, _<_, _≤_, _^_}
+use mathlib.Core.Path.{_≡_, refl, sym, ap}
+use Prim.Native.Nat.{ℕ, zero, suc, _+_, _-_, _<_, _≤_, _^_}
 use native.Mathlib.Omega.{arith}
 use lib.IntN.{ℤ, pos, negsuc, natAbs, _+ℤ_, _-ℤ_, subℕ}
 use lib.Signed.{ltZ, leZ, nonNeg}
-use lib.Dec.{T, ltb, leb, ltb→lt}
+use lib.Dec.{T, ltb, ltb→lt}
 use mir.Syntax.{w16, w32, w64}
 use mir.Val.{SFits, Fits, toZ, ofZ}
 use mir.ValLaws.{toZ-ofZ}

@@ -1,5 +1,5 @@
 -- Where a descriptor ends and whether it is stored, whatever its numbers are: by its byte alone.
-use mathlib.Core.Path.{_≡_, refl, sym, ap, ap₂, _∙_}
+use mathlib.Core.Path.{_≡_, refl, sym, ap, _∙_}
 use mathlib.Core.Bool.{Bool, true, false, not, cond}
 use mathlib.Core.Logic.{by-cases}
 use mathlib.Core.List.{List}
@@ -16,7 +16,7 @@ use Rattle.formats.specs.Reader.{Reader, done, ok, short, mapped, readAt, bind,
 use Rattle.formats.specs.Compose.{at-done, at-pass, at-bind-ok, at-bind-short}
 use Rattle.formats.specs.Number.{number, at-number, at-number-short}
 use Rattle.formats.specs.Told.{told, told-mapped, told-done, told-short}
-use Rattle.formats.specs.Jump.{Jumps, ends, ends-there, ends-short, jumps-done, jumps-bind}
+use Rattle.formats.specs.Jump.{Jumps, ends-there, ends-short, jumps-done, jumps-bind}
 use Rattle.channels.specs.Channel.{signedOf}
 use Rattle.channels.specs.Stored.{valueOf}
 use Rattle.channels.specs.declared.Attribute.{Attribute}

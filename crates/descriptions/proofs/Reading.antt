@@ -1,7 +1,7 @@
 -- What a loop over the channels has of a description when it has gone through some of them, and what the whole answers from there:
 -- one account for the loop that reads descriptors and for the one that only measures them.
 use mathlib.Core.Path.{_≡_, refl, sym, ap, _∙_}
-use mathlib.Core.Bool.{Bool, true, false}
+use mathlib.Core.Bool.{true, false}
 use mathlib.Core.List.{List, [], _∷_, _++_}
 use mathlib.Core.List as list
 use Prim.Native.Nat.{ℕ, zero, suc, _+_, _≤_, _<_}

@@ -1,40 +1,35 @@
 -- What is left to judge and to write of a point, and of a row of points, when some of it is done.
 use mathlib.Core.Path.{_≡_, refl, sym, ap, _∙_}
 use mathlib.Core.Bool.{Bool, true, false, cond, _&&_}
-use mathlib.Core.List.{List, [], _∷_, _++_, map, flatMap, append-nil, append-assoc}
+use mathlib.Core.List.{List, [], _∷_, _++_, flatMap}
 use mathlib.Core.Logic.{by-cases}
 use mathlib.Core.Option.{some, none}
-use Prim.Native.Nat.{ℕ, zero, suc, _+_, _-_, _*_, _/_, _%_, _^_, _≤_, _<_}
+use Prim.Native.Nat.{ℕ, zero, suc, _+_, _-_, _*_, _/_, _%_, _≤_, _<_}
 use native.Mathlib.Decide.{decLt}
 use native.Mathlib.Numerals.{add-one}
 use native.Mathlib.Omega.{arith}
 use borrow.Author.Tests.{ne-eqb, le-leb, lt-leb, lt-ltb, le-ltb, ltb-true}
 use lib.Dec.{T, leb·zero}
-use lib.IntN.{ℤ, pos, negsuc, natAbs, _+ℤ_, _-ℤ_}
+use lib.IntN.{ℤ, pos, negsuc, natAbs}
 use lib.Signed.{nonNeg, leZ, ltZ}
-use mir.Syntax.{w8, w16, w32}
-use mir.Val.{SFits, Fits}
+use mir.Syntax.{w8}
+use mir.Val.{Fits}
 use lib.ListN.{length, getD, set, take, drop, drop-of-length-le, length-append}
-use lib.Seq.{drop-cons, drop-drop, take-all, take-suc-set, take-at}
+use lib.Seq.{drop-cons, drop-drop}
 use Rattle.formats.specs.Bytes.{impossible}
 use Rattle.formats.specs.Number.{digits, length-digits}
-use Rattle.formats.specs.Put.{puts, length-puts, puts-is}
+use Rattle.formats.specs.Put.{puts}
 use Rattle.formats.specs.Laid.{Room, Laid}
 use Rattle.formats.specs.Writes.{encodeEach}
 use Rattle.formats.specs.Lent.{writing}
 use Rattle.channels.specs.Channel.{S, signs, signedOf}
 use Rattle.channels.specs.Stored.{offset, valueOf, storedOf, fits, ranges}
 use Rattle.channels.specs.Switch.{byteOf, isState}
-use Rattle.channels.specs.declared.Descriptor.{Descriptor}
 use Rattle.channels.specs.declared.Description.{Description}
-use Rattle.descriptions.specs.Description.{absent, isStored, encodeDescription}
-use Rattle.descriptions.specs.Write.{flawOf, putRoom, putFlaw, putIf}
-use Rattle.descriptions.specs.Size.{description-size}
+use Rattle.descriptions.specs.Write.{flawOf}
 use Rattle.descriptions.specs.declared.Flaw.{Flaw}
 use Rattle.descriptions.specs.declared.Flaw.the-variants as flaw
-use Rattle.descriptions.specs.declared.Written.{Written}
-use Rattle.descriptions.specs.declared.Written.the-variants.{Done, Flawed, NoRoom}
-use Rattle.records.specs.Record.{Record, stored, fitsSample, encodeSample, encodeExtended}
+use Rattle.records.specs.Record.{Record, fitsSample, encodeSample, encodeExtended}
 use Rattle.records.specs.Values.{pointsOf}
 use Rattle.records.specs.Write.{recordOf, fitsEach, fitsRow, heldFrom, rowBytes, checkValues, byFlaw, check, putWhere, writeOf, openingBytes}
 use Rattle.records.specs.declared.Written.{Written as Answer}
@@ -88,22 +83,6 @@ module _ (channel : ℕ) (v : ℤ) (h : fitsSample channel v ≡ true) where
   pub wide-bytes : (channel ≡ S → ⊥) → encodeSample channel v ≡ digits 2 (storedOf 2 (signedOf channel) v)
   unfolding encodeSample
   wide-bytes e = rw (ne-eqb channel S e)
-
--- how far a number is above the least of its channel
-pub above-least : (signed : Bool) (v : ℤ) → v -ℤ valueOf 2 signed 0 ≡ v +ℤ offset 2 signed
-unfolding valueOf offset
-above-least true v = refl
-above-least false v = refl
-
-module _ (signed : Bool) (v : ℤ) where
-  -- no bits are lost where it fits
-  pub above-fits : fits 2 signed v ≡ true → SFits w32 (v +ℤ offset 2 signed) × (T (nonNeg (v +ℤ offset 2 signed)) × Fits w16 (natAbs (v +ℤ offset 2 signed)))
-  unfolding fits
-  above-fits h = within (v +ℤ offset 2 signed) h
-    where
-      within : (z : ℤ) → (nonNeg z && ltZ z (pos (256 ^ 2))) ≡ true → SFits w32 z × (T (nonNeg z) × Fits w16 (natAbs z))
-      within (pos n) q = let g = ltb-true n (256 ^ 2) q in (record { sfits = omega (arith, g) }, (tt, record { fits = omega (arith, g) }))
-      within (negsuc n) q = impossible (cc)
 
 -- ---- A point: the channels from i on, and the values from j on
 

@@ -6,8 +6,7 @@ use mathlib.Core.List as list
 use Prim.Native.Nat.{ℕ, _+_, _-_, _*_, _≤_, _<_}
 use native.Mathlib.Nat.{mul-le-mul-right}
 use native.Mathlib.Omega.{arith}
-use lib.Dec.{ltb}
-use lib.ListN.{length, getD, replicate}
+use lib.ListN.{length, replicate}
 use borrow.Author.Tests.{lt-ltb, le-ltb}
 use Rattle.formats.specs.Bytes.{impossible}
 use Rattle.formats.specs.Reader.{Answer, ok, short, bad, run, readAt, each}
@@ -27,7 +26,7 @@ use Rattle.records.specs.Nth.{fixed-point, nth-point}
 use Rattle.records.specs.Layout.{layoutOf}
 use Rattle.records.specs.Described.{record-described}
 use Rattle.records.specs.Found.{LaidOut, record-laid, short-laid, bad-laid}
-use Rattle.records.specs.Verdict.{faultOf, judged, unjudged, extendedPlace, extendedSize, extendedBytes, restPlace, restSize, pointedAt, placesIn}
+use Rattle.records.specs.Verdict.{faultOf, judged, unjudged, extendedPlace, extendedSize, restPlace, restSize, pointedAt, placesIn}
 use Rattle.records.specs.declared.Layout.{Layout}
 use Rattle.records.specs.declared.Fault.{Fault}
 use Rattle.records.specs.declared.Judged.{Judged}

@@ -1,7 +1,7 @@
 -- `descriptions::attribute_at` meets its contract: a number and what it stands for, or nothing.
 use mathlib.Core.Path.{_≡_, sym, ap, _∙_}
 use mathlib.Core.Bool.{Bool, true, cond}
-use Prim.Native.Nat.{ℕ, _+_}
+use Prim.Native.Nat.{_+_}
 use native.Mathlib.Omega.{arith}
 use borrow.Author.Needs.{needs}
 use borrow.Author.Tests.{not-true, not-false}
@@ -12,8 +12,6 @@ use mir.ValLaws.{toZ-pos, toZ-ofZ}
 use Rattle.channels.proofs.Numbers.{value-fits}
 use Rattle.channels.specs.Channel.{widthOf}
 use Rattle.channels.specs.Stored.{valueOf}
-use Rattle.formats.specs.Reader.{ok, readAt}
-use Rattle.descriptions.specs.Description.{attribute}
 use Rattle.descriptions.proofs.Parts.{above-least, attribute-given, attribute-none}
 use Rattle.descriptions.proofs.attribute_at.Statement.{statement}
 use Rattle.descriptions.proofs.attribute_at.Tie as tie

@@ -1,5 +1,4 @@
 -- `descriptions::opening_at` meets its contract: the first byte is judged before the second is looked for, and the channels follow.
-use mathlib.Core.Path.{sym, ap, _∙_}
 use native.Mathlib.Omega.{arith}
 use borrow.Author.Needs.{needs}
 use Rattle.descriptions.specs.Read.{behind}
