@@ -5,7 +5,7 @@ use Prim.Native.Nat.{ℕ, zero, suc, _-_, _/_, _^_, _<_}
 use native.Mathlib.Nat.{one-le-pow}
 use native.Mathlib.Omega.{arith}
 use lib.Dec.{T, ltb→lt, lt→ltb, leb·zero, leb·suc-zero, leb·suc-suc}
-use lib.IntN.{ℤ, pos, negsuc, natAbs, sucℤ, negℤ, _+ℤ_, _-ℤ_, -ℤ-+ℤ-cancel, +ℤ-negℤ-cancel, +ℤ-idl, +ℤ-idr, +ℤ-sucℤ, negℤ-negℤ}
+use lib.IntN.{ℤ, pos, negsuc, natAbs, sucℤ, negℤ, _+ℤ_, _-ℤ_, -ℤ-+ℤ-cancel, +ℤ-negℤ-cancel, +ℤ-idl, +ℤ-idr, +ℤ-sucℤ, +ℤ-comm, negℤ-negℤ}
 use lib.Signed.{nonNeg, leZ, ltZ}
 use Rattle.channels.specs.declared.Stored.{Stored}
 use Rattle.channels.specs.declared.Stored.the-variants.{Number, Outside}
@@ -58,6 +58,11 @@ module _ (w : ℕ) (signed : Bool) where
   pub stored-above : (v : ℤ) → v -ℤ valueOf w signed 0 ≡ v +ℤ offset w signed
   unfolding valueOf
   stored-above v = ap (λ z. v -ℤ z) (+ℤ-idl (negℤ (offset w signed))) ∙ ap (λ z. v +ℤ z) (negℤ-negℤ (offset w signed))
+
+  -- and a number stands for as much above the least as is stored
+  pub value-above : (n : ℕ) → valueOf w signed 0 +ℤ pos n ≡ valueOf w signed n
+  unfolding valueOf
+  value-above n = ap (λ z. z +ℤ pos n) (+ℤ-idl (negℤ (offset w signed))) ∙ +ℤ-comm (negℤ (offset w signed)) (pos n)
 
 -- ---- The ranges
 

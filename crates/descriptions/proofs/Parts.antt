@@ -8,7 +8,7 @@ use Prim.Native.Nat.{ℕ, _+_, _*_, _/_, _%_, _≤_, _<_}
 use native.Mathlib.Nat.{zero-add}
 use native.Mathlib.Decide.{decLt}
 use native.Mathlib.Omega.{arith}
-use lib.IntN.{ℤ, pos, negsuc, _+ℤ_, +ℤ-comm}
+use lib.IntN.{ℤ}
 use lib.ListN.{length, getD}
 use lib.Seq.{getD-drop}
 use borrow.Author.Tests.{eq-eqb, ne-eqb}
@@ -16,10 +16,8 @@ use Rattle.formats.specs.Reader.{ok, short, bad, readAt, bind, map, one, any}
 use Rattle.formats.specs.Compose.{at-done, at-short, at-pass, at-fail, at-bind-ok}
 use Rattle.formats.specs.Number.{number, value, at-number}
 use Rattle.formats.specs.Binary.{bit}
-use Rattle.channels.specs.Channel.{signedOf, widthOf}
-use Rattle.channels.specs.Stored.{offset, valueOf}
-use Rattle.channels.specs.declared.Format.{Format}
-use Rattle.channels.specs.declared.Format.the-variants.{Full, Compact}
+use Rattle.channels.specs.Channel.{signedOf}
+use Rattle.channels.specs.Stored.{valueOf}
 use Rattle.channels.specs.declared.Descriptor.{Descriptor}
 use Rattle.descriptions.specs.Description.{hasXY, reserved, noAttribute, attribute, descriptor, description}
 use Rattle.descriptions.specs.Read.{channelsFrom}
@@ -37,14 +35,6 @@ module _ (s : List ℕ) (at : ℕ) where
   two-bytes h = let e : at + 0 ≡ at = omega arith in rw (getD-drop at s 0 0, getD-drop at s 1 0, e, zero-add) at (at-number 2 s at h)
 
 -- ---- An attribute
-
--- a stored number stands for as much above the least
-pub above-least : (format : Format) (signed : Bool) (n : ℕ) → valueOf (widthOf format) signed 0 +ℤ pos n ≡ valueOf (widthOf format) signed n
-unfolding valueOf offset widthOf
-above-least Full true n = +ℤ-comm (negsuc 32767) (pos n)
-above-least Full false n = +ℤ-comm (pos 0) (pos n)
-above-least Compact true n = +ℤ-comm (negsuc 127) (pos n)
-above-least Compact false n = +ℤ-comm (pos 0) (pos n)
 
 module _ (w : ℕ) (signed flag : Bool) (s : List ℕ) (at : ℕ) where
   pub attribute-given : flag ≡ true → {n m next : ℕ} {v : ℤ} → v ≡ valueOf w signed n → readAt (number w) s at ≡ ok n m → m ≡ next

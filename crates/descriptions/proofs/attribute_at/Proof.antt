@@ -11,8 +11,8 @@ use mir.Val.{SFits, toZ, ofZ}
 use mir.ValLaws.{toZ-pos, toZ-ofZ}
 use Rattle.channels.proofs.Numbers.{value-fits}
 use Rattle.channels.specs.Channel.{widthOf}
-use Rattle.channels.specs.Stored.{valueOf}
-use Rattle.descriptions.proofs.Parts.{above-least, attribute-given, attribute-none}
+use Rattle.channels.specs.Stored.{valueOf, value-above}
+use Rattle.descriptions.proofs.Parts.{attribute-given, attribute-none}
 use Rattle.descriptions.proofs.attribute_at.Statement.{statement}
 use Rattle.descriptions.proofs.attribute_at.Tie as tie
 
@@ -48,12 +48,12 @@ module _ (m : tie.After-number-at) where
   unfolding valueOf
   fits =
       let l = start .pre .0 in
-      rw (l .1, above-least (start .args .format) (l .0) (m .number-at .result)) (value-fits (start .args .format) (l .0) (m .number-at .result) (omega arith))
+      rw (l .1, value-above (widthOf (start .args .format)) (l .0) (m .number-at .result)) (value-fits (start .args .format) (l .0) (m .number-at .result) (omega arith))
 
   meant : (signed : Bool) → start .args .least ≡ valueOf (widthOf (start .args .format)) signed 0
       → toZ w32 (ofZ w32 (toZ w32 (ofZ w32 (start .args .least)) +ℤ toZ w32 (m .number-at .result))) ≡ valueOf (widthOf (start .args .format)) signed (m .number-at .result)
   meant signed e =
-      rw sum (toZ-ofZ w32 _ fits) ∙ ap (λ z. z +ℤ pos (m .number-at .result)) e ∙ above-least (start .args .format) signed (m .number-at .result)
+      rw sum (toZ-ofZ w32 _ fits) ∙ ap (λ z. z +ℤ pos (m .number-at .result)) e ∙ value-above (widthOf (start .args .format)) signed (m .number-at .result)
 
 cast-number : tie.Need-cast-number
 cast-number c = search needs
