@@ -136,23 +136,18 @@ module _ {A : Type 0} (next : ℕ → Answer A) {x : Answer A} where
   behind-ended Short q e = sym (ap told e)
   behind-ended (Bad k p) q e = sym (ap told e)
 
--- where there is no description
+-- where there is no description: by what is answered then
+module _ {B : Type 0} (answer : Answer Description → B) (refused : Outcome → B) (s : refused Short ≡ answer short) (b : (k p : ℕ) → refused (Bad k p) ≡ answer (bad k p)) where
+  ended-by : (o : Outcome) (x : Answer Description) → ((n : ℕ) → o ≡ Done n → ⊥) → o ≡ told x → refused o ≡ answer x
+  unfolding told
+  ended-by o (ok d n) q e = absurd (q n e)
+  ended-by o short q e = ap refused e ∙ s
+  ended-by o (bad k p) q e = ap refused e ∙ b k p
 
-module _ (o : Outcome) (x : Answer Description) (q : (n : ℕ) → o ≡ Done n → ⊥) (e : o ≡ told x) where
-  pub described-ended : ended o ≡ described x
-  unfolding described told
-  described-ended = go x e
-    where
-      go : (x : Answer Description) → o ≡ told x → ended o ≡ described x
-      go (ok d n) f = absurd (q n f)
-      go short f = ap ended f
-      go (bad k p) f = ap ended f
+pub described-ended : (o : Outcome) (x : Answer Description) → ((n : ℕ) → o ≡ Done n → ⊥) → o ≡ told x → ended o ≡ described x
+unfolding described
+described-ended = ended-by described ended refl (λ k p. refl)
 
-  pub measured-ended : unmeasured o ≡ measured x
-  unfolding measured told
-  measured-ended = go x e
-    where
-      go : (x : Answer Description) → o ≡ told x → unmeasured o ≡ measured x
-      go (ok d n) f = absurd (q n f)
-      go short f = ap unmeasured f
-      go (bad k p) f = ap unmeasured f
+pub measured-ended : (o : Outcome) (x : Answer Description) → ((n : ℕ) → o ≡ Done n → ⊥) → o ≡ told x → unmeasured o ≡ measured x
+unfolding measured
+measured-ended = ended-by measured unmeasured refl (λ k p. refl)
