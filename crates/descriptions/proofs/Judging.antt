@@ -68,13 +68,18 @@ five-pairs u a p b q c r d s e t =
     ∙ ap (λ z. z && (e && t)) (pairs u (a && b && c) (p && q && r) d s)
     ∙ pairs u (a && b && c && d) (p && q && r && s) e t
 
--- what is asked of a descriptor, up to each attribute
-module _ (d : Descriptor) where
-  abbrev pub toFlags : Bool
-  toFlags = d .included || flagless d
+-- and a test that is made last may stand first
+last-first : (a p f : Bool) → (a && p && f) ≡ (f && a && p)
+last-first true true true = refl
+last-first true true false = refl
+last-first true false true = refl
+last-first true false false = refl
+last-first false p true = refl
+last-first false p false = refl
 
-  abbrev pub toScaling : Bool
-  toScaling = toFlags && (tidyAttribute (d .scaling) && fitsAttribute 2 false (d .scaling))
+-- what is asked of a descriptor, up to each attribute
+abbrev pub toScaling : Descriptor → Bool
+toScaling d = tidyAttribute (d .scaling) && fitsAttribute 2 false (d .scaling)
 
 module _ (w channel : ℕ) (d : Descriptor) where
   abbrev pub toMinimum : Bool
@@ -89,11 +94,13 @@ module _ (w channel : ℕ) (d : Descriptor) where
   abbrev pub toDeviation : Bool
   toDeviation = toMean && (tidyAttribute (d .deviation) && fitsAttribute w false (d .deviation))
 
-  pub all-asked : toDeviation ≡ (tidyDescriptor d && fitsDescriptor w channel d)
+  pub all-asked : (toDeviation && (d .included || flagless d)) ≡ (tidyDescriptor d && fitsDescriptor w channel d)
   unfolding tidyDescriptor fitsDescriptor
   all-asked =
-      five-pairs
-      (toFlags d)
+      ap
+      (λ t. t && (d .included || flagless d))
+      (five-pairs
+      true
       (tidyAttribute (d .scaling))
       (fitsAttribute 2 false (d .scaling))
       (tidyAttribute (d .minimum))
@@ -103,7 +110,8 @@ module _ (w channel : ℕ) (d : Descriptor) where
       (tidyAttribute (d .mean))
       (fitsAttribute w (signedOf channel) (d .mean))
       (tidyAttribute (d .deviation))
-      (fitsAttribute w false (d .deviation))
+      (fitsAttribute w false (d .deviation)))
+      ∙ last-first _ _ (d .included || flagless d)
 
 -- two tests of each channel are one
 pub every-both : (f g : ℕ → Descriptor → Bool) (i : ℕ) (ds : List Descriptor) → (every f i ds && every g i ds) ≡ every (λ j d. f j d && g j d) i ds

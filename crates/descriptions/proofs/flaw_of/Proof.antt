@@ -10,11 +10,11 @@ use Rattle.descriptions.specs.Write.{flawOf}
 use Rattle.descriptions.proofs.flaw_of.Statement.{statement}
 use Rattle.descriptions.proofs.flaw_of.Tie as tie
 
-has-x-and-y-requires : tie.Need-has-x-and-y-requires
-has-x-and-y-requires c κs = search needs
-
 is-sound-requires : tie.Need-is-sound-requires
 is-sound-requires c κs = search needs
+
+has-x-and-y-requires : tie.Need-has-x-and-y-requires
+has-x-and-y-requires c κs = search needs
 
 is-tidy-requires : tie.Need-is-tidy-requires
 is-tidy-requires c κs = search needs
@@ -33,44 +33,46 @@ unfolding flawOf
 returns c = rw (sym (c .before .has-x-and-y .ensures) ∙ not-true _ (c .if1 .taken))
 
 -- the tests, as the definition has them
-complete : (c : tie.Else1) → includesXY (c .before .before .args .description) ≡ true
+complete : (c : tie.Else1) → includesXY (c .before .before .before .args .description) ≡ true
 complete c = sym (c .before .has-x-and-y .ensures) ∙ not-false _ (c .if1 .left)
 
 module _ (m : tie.After-is-sound) where
   abbrev neat : Bool
-  neat = tidy (m .before .before .before .args .description)
+  neat = tidy (m .before .args .description)
 
   abbrev fit : Bool
-  fit = allFit (widthOf (m .before .before .before .args .format)) (m .before .before .before .args .description)
+  fit = allFit (widthOf (m .before .args .format)) (m .before .args .description)
 
 returns-2 : tie.Need-returns-2
 unfolding flawOf
 returns-2 c =
-    let m = c .before in
+    let e = c .before in
+    let m = e .before .before in
     let p = pass (neat m) (fit m) (sym (m .is-sound .ensures) ∙ c .if2 .taken) in
-    rw (complete (m .before), p .0, p .1)
+    rw (complete e, p .0, p .1)
 
 returns-3 : tie.Need-returns-3
 unfolding flawOf
 returns-3 c =
     let t = c .before in
-    let m = t .before .before in
-    let e = sym (t .is-tidy .ensures) ∙ c .if3 .taken in
-    rw (complete (m .before), e, fail (neat m) (fit m) (sym (m .is-sound .ensures) ∙ t .before .if2 .left) e)
+    let e = t .before .before in
+    let m = e .before .before in
+    let n = sym (t .is-tidy .ensures) ∙ c .if3 .taken in
+    rw (complete e, n, fail (neat m) (fit m) (sym (m .is-sound .ensures) ∙ t .before .if2 .left) n)
 
 returns-4 : tie.Need-returns-4
 unfolding flawOf
 returns-4 c =
     let t = c .before in
-    rw (complete (t .before .before .before), sym (t .is-tidy .ensures) ∙ c .if3 .left)
+    rw (complete (t .before .before), sym (t .is-tidy .ensures) ∙ c .if3 .left)
 
 pub flaw-of-spec : {M : Type 1} → statement M
 flaw-of-spec =
     tie.close
     (tie.spec
+    is-sound-requires
     has-x-and-y-requires
     returns
-    is-sound-requires
     returns-2
     is-tidy-requires
     returns-3

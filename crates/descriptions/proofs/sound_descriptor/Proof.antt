@@ -12,7 +12,7 @@ use mir.ValLaws.{toZ-pos, toZ-ofZ}
 use Rattle.channels.specs.Channel.{widthOf, signedOf}
 use Rattle.channels.specs.Stored.{offset, valueOf}
 use Rattle.descriptions.specs.Description.{flagless}
-use Rattle.descriptions.proofs.Judging.{toFlags, toScaling, toMinimum, toMaximum, toMean, all-asked, asked, not-asked}
+use Rattle.descriptions.proofs.Judging.{toScaling, toMinimum, toMaximum, toMean, toDeviation, all-asked, asked, not-asked}
 use Rattle.descriptions.proofs.sound_descriptor.Statement.{statement}
 use Rattle.descriptions.proofs.sound_descriptor.Tie as tie
 
@@ -63,57 +63,61 @@ unfolding valueOf offset
 largest-deviation c = toZ-pos w32 (c .largest .result) (omega arith) ∙ ap pos (omega (arith, c .largest .ensures))
 
 -- what was asked up to each attribute
-module _ (c : tie.Joined1) where
+module _ (c : tie.After-sound-attribute) where
   abbrev start : tie.Start
   start = c .before .before .before .before
 
-  flags-asked : c .if1 .if2 ≡ toFlags (start .args .d)
-  flags-asked =
-      ⊎-elim
-      (λ w. w .1 ∙ w .0 .taken ∙ ap (λ t. t || flagless (start .args .d)) (sym (w .0 .taken)))
-      (λ w. w .2 ∙ w .1 .ensures ∙ ap (λ t. t || flagless (start .args .d)) (sym (w .0 .left)))
-      (c .if1 .came)
-
-scaling-asked : (c : tie.Joined2) → c .if2 .if3 ≡ toScaling (start (c .before) .args .d)
-unfolding valueOf offset
-scaling-asked c =
-    let e = flags-asked (c .before) in
-    ⊎-elim (λ w. w .2 ∙ asked e (w .0 .taken) (w .1 .ensures 2 false refl refl)) (λ w. w .1 ∙ not-asked e _ (w .0 .left)) (c .if2 .came)
+  scaling-asked : c .sound-attribute .result ≡ toScaling (start .args .d)
+  unfolding valueOf offset
+  scaling-asked = c .sound-attribute .ensures 2 false refl refl
 
 module _ (channel : ℕ) where
-  abbrev Signed : tie.Joined1 → Type 0
+  abbrev Signed : tie.After-sound-attribute → Type 0
   Signed c = start c .args .signed ≡ signedOf channel
 
-  minimum-asked : (c : tie.Joined3) → Signed (c .before .before)
-      → c .if3 .if4 ≡ toMinimum (widthOf (start (c .before .before) .args .format)) channel (start (c .before .before) .args .d)
+  minimum-asked : (c : tie.Joined1) → Signed (c .before) → c .if1 .if2 ≡ toMinimum (widthOf (start (c .before) .args .format)) channel (start (c .before) .args .d)
   minimum-asked c h =
       let e = scaling-asked (c .before) in
-      let v = c .before .before .before in
-      ⊎-elim (λ w. w .2 ∙ asked e (w .0 .taken) (w .1 .ensures _ _ (least channel v h) (most channel v h))) (λ w. w .1 ∙ not-asked e _ (w .0 .left)) (c .if3 .came)
+      let v = c .before .before in
+      ⊎-elim (λ w. w .2 ∙ asked e (w .0 .taken) (w .1 .ensures _ _ (least channel v h) (most channel v h))) (λ w. w .1 ∙ not-asked e _ (w .0 .left)) (c .if1 .came)
 
-  maximum-asked : (c : tie.Joined4) → Signed (c .before .before .before)
-      → c .if4 .if5 ≡ toMaximum (widthOf (start (c .before .before .before) .args .format)) channel (start (c .before .before .before) .args .d)
+  maximum-asked : (c : tie.Joined2) → Signed (c .before .before)
+      → c .if2 .if3 ≡ toMaximum (widthOf (start (c .before .before) .args .format)) channel (start (c .before .before) .args .d)
   maximum-asked c h =
       let e = minimum-asked (c .before) h in
-      let v = c .before .before .before .before in
-      ⊎-elim (λ w. w .2 ∙ asked e (w .0 .taken) (w .1 .ensures _ _ (least channel v h) (most channel v h))) (λ w. w .1 ∙ not-asked e _ (w .0 .left)) (c .if4 .came)
+      let v = c .before .before .before in
+      ⊎-elim (λ w. w .2 ∙ asked e (w .0 .taken) (w .1 .ensures _ _ (least channel v h) (most channel v h))) (λ w. w .1 ∙ not-asked e _ (w .0 .left)) (c .if2 .came)
 
-  mean-asked : (c : tie.Joined5) → Signed (c .before .before .before .before)
-      → c .if5 .if6 ≡ toMean (widthOf (start (c .before .before .before .before) .args .format)) channel (start (c .before .before .before .before) .args .d)
+  mean-asked : (c : tie.Joined3) → Signed (c .before .before .before)
+      → c .if3 .if4 ≡ toMean (widthOf (start (c .before .before .before) .args .format)) channel (start (c .before .before .before) .args .d)
   mean-asked c h =
       let e = maximum-asked (c .before) h in
-      let v = c .before .before .before .before .before in
-      ⊎-elim (λ w. w .2 ∙ asked e (w .0 .taken) (w .1 .ensures _ _ (least channel v h) (most channel v h))) (λ w. w .1 ∙ not-asked e _ (w .0 .left)) (c .if5 .came)
+      let v = c .before .before .before .before in
+      ⊎-elim (λ w. w .2 ∙ asked e (w .0 .taken) (w .1 .ensures _ _ (least channel v h) (most channel v h))) (λ w. w .1 ∙ not-asked e _ (w .0 .left)) (c .if3 .came)
+
+  deviation-asked : (c : tie.Joined4) → Signed (c .before .before .before .before)
+      → c .if4 .if5 ≡ toDeviation (widthOf (start (c .before .before .before .before) .args .format)) channel (start (c .before .before .before .before) .args .d)
+  unfolding valueOf offset
+  deviation-asked c h =
+      let e = mean-asked (c .before) h in
+      let l = c .before .before .before .before .before .before .before in
+      ⊎-elim (λ w. w .2 ∙ asked e (w .0 .taken) (w .1 .ensures _ false refl (largest-deviation l))) (λ w. w .1 ∙ not-asked e _ (w .0 .left)) (c .if4 .came)
 
 returns : tie.Need-returns
-unfolding valueOf offset
 returns c channel h =
-    let e = c .before in
-    let m = e .before in
-    asked (mean-asked channel m h) (e .if6 .taken) (c .sound-attribute5 .ensures _ false refl (largest-deviation (m .before .before .before .before .before .before .before))) ∙ all-asked _ channel _
+    let t = c .before in
+    let d = start (t .before .before .before .before .before) .args .d in
+    asked (deviation-asked channel (t .before) h) (t .if5 .taken) (c .if6 .taken ∙ sym (ap (λ x. x || flagless d) (c .if6 .taken))) ∙ all-asked _ channel d
 
 returns-2 : tie.Need-returns-2
-returns-2 c channel h = not-asked (mean-asked channel (c .before) h) _ (c .if6 .left) ∙ all-asked _ channel _
+returns-2 c channel h =
+    let f = c .before in
+    let t = f .before in
+    let d = start (t .before .before .before .before .before) .args .d in
+    asked (deviation-asked channel (t .before) h) (t .if5 .taken) (c .has-no-flag .ensures ∙ sym (ap (λ x. x || flagless d) (f .if6 .left))) ∙ all-asked _ channel d
+
+returns-3 : tie.Need-returns-3
+returns-3 c channel h = not-asked (deviation-asked channel (c .before) h) _ (c .if5 .left) ∙ all-asked _ channel _
 
 pub sound-descriptor-spec : {M : Type 1} → statement M
 sound-descriptor-spec =
@@ -122,12 +126,13 @@ sound-descriptor-spec =
     largest-requires
     value-of-requires
     value-of-requires-2
-    has-no-flag-requires
     sound-attribute-requires
     sound-attribute-requires-2
     sound-attribute-requires-3
     sound-attribute-requires-4
     cast-sound-attribute
     sound-attribute-requires-5
+    has-no-flag-requires
     returns
-    returns-2)
+    returns-2
+    returns-3)
