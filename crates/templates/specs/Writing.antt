@@ -31,12 +31,19 @@ flawIf false d = flaw.None
 unfoldable pub exceeds : (limited : Bool) (maximum : ℕ) → Bool
 exceeds limited n = limited && ltb 16777215 n
 
+-- the refusal of a description that has this flaw; it isn't asked of one that has none
+abbrev pub byFlaw : Flaw → Written
+byFlaw flaw.None = NoRoom
+byFlaw flaw.XOrY = XOrY
+byFlaw flaw.Untidy = Untidy
+byFlaw flaw.OutOfRange = OutOfRange
+
 -- a flaw leaves the bytes as they were
 unfoldable pub unflawed : Flaw → (out : List ℕ) → Writing Written → Writing Written
 unflawed flaw.None out rest = rest
-unflawed flaw.XOrY out rest = writing XOrY out
-unflawed flaw.Untidy out rest = writing Untidy out
-unflawed flaw.OutOfRange out rest = writing OutOfRange out
+unflawed flaw.XOrY out rest = writing (byFlaw flaw.XOrY) out
+unflawed flaw.Untidy out rest = writing (byFlaw flaw.Untidy) out
+unflawed flaw.OutOfRange out rest = writing (byFlaw flaw.OutOfRange) out
 
 -- bytes that there is room for come first, and the others are untouched
 unfoldable pub inRoom : (b out : List ℕ) → Writing Written
@@ -50,13 +57,6 @@ writeOf described d limited maximum out =
     (inRoom (encode (saying described d limited maximum)) out))
 
 -- ---- The parts, from the bytes of the description
-
--- the refusal of one that has a flaw
-abbrev pub byFlaw : Flaw → Written
-byFlaw flaw.None = NoRoom
-byFlaw flaw.XOrY = XOrY
-byFlaw flaw.Untidy = Untidy
-byFlaw flaw.OutOfRange = OutOfRange
 
 -- 81, where it is wanted
 unfoldable pub describedBytes : (described : Bool) (bytes : List ℕ) → List ℕ
