@@ -1,11 +1,4 @@
 // The console: one question a line, one answer a line, over every public function of the library.
-mod answers;
-mod described;
-mod numbers;
-mod questions;
-mod thousandths;
-mod words;
-mod writing;
 
 // The longest line that is read.
 const LONGEST: usize = 262144;
@@ -32,7 +25,7 @@ fn answer(text: &mut [u8; 65536], start: u16, line: &[u8; 262144], gathered: usi
     let bytes: &[u8] = line;
     let mut used = start;
     if LONGEST < gathered {
-        used = answers::cannot(text, used, b"a line has at most 262144 bytes");
+        used = answers::cannot(text, used, answers::TOO_LONG);
     } else {
         used = questions::answer(text, used, &bytes[0..gathered]);
     }
@@ -69,7 +62,7 @@ fn take_some(text: &mut [u8; 65536], line: &mut [u8; 262144], gathered: usize) -
     let n = io::count(libc::read(0, &mut bytes), &bytes);
     Taken {
         more: 0 < n,
-        gathered: take(text, line, gathered, &bytes[..n]),
+        gathered: take(text, line, gathered, &bytes[0..n]),
     }
 }
 

@@ -1,7 +1,7 @@
 -- Each public function has one answer: whatever meets its promise is the same.
 use mathlib.Core.Path.{_≡_}
 use mathlib.Core.Bool.{Bool}
-use Prim.Native.Nat.{ℕ}
+use Prim.Native.Nat.{ℕ, _≤_}
 use lib.IntN.{ℤ}
 use Rattle.formats.specs.OneAnswer.{OneAnswer, named}
 use Rattle.channels.specs.Channel.{signs, signedOf, widthOf}
@@ -26,3 +26,6 @@ one-state byte = named
 
 pub one-byte : (state : ℤ) → OneAnswer (λ r. r ≡ byteIf state)
 one-byte state = named
+
+pub one-width : (format : Format) → OneAnswer (λ r. (r ≡ widthOf format) × (r ≤ 2))
+one-width format r q e g = named r q (e .0) (g .0)

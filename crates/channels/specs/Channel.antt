@@ -1,7 +1,10 @@
 -- The sixteen channels, by their place in the order of 7.3.4.1.
+use mathlib.Core.Path.{_≡_, _∙_}
 use mathlib.Core.Bool.{Bool, true, false}
 use mathlib.Core.List.{List, [], _∷_}
-use Prim.Native.Nat.{ℕ}
+use Prim.Native.Nat.{ℕ, zero, suc, _+_, _<_}
+use native.Mathlib.Nat.{zero-add}
+use native.Mathlib.Omega.{arith}
 use lib.ListN.{getD}
 use Rattle.channels.specs.declared.Format.{Format}
 use Rattle.channels.specs.declared.Format.the-variants.{Full, Compact}
@@ -9,6 +12,22 @@ use Rattle.channels.specs.declared.Format.the-variants.{Full, Compact}
 -- their places
 abbrev pub channels : List ℕ
 channels = 0 ∷ 1 ∷ 2 ∷ 3 ∷ 4 ∷ 5 ∷ 6 ∷ 7 ∷ 8 ∷ 9 ∷ 10 ∷ 11 ∷ 12 ∷ 13 ∷ 14 ∷ 15 ∷ []
+
+-- n of them, from channel i on
+unfoldable pub from : ℕ → ℕ → List ℕ
+from i zero = []
+from i (suc n) = i ∷ from (suc i) n
+
+-- each stands at its own place
+nth-from : (i n k : ℕ) → k < n → getD (from i n) k 0 ≡ i + k
+unfolding from
+nth-from i zero k h = absurd (omega arith)
+nth-from i (suc n) zero h = omega arith
+nth-from i (suc n) (suc k) h = nth-from (suc i) n k (omega arith) ∙ omega arith
+
+pub nth-channel : (channel : ℕ) → channel < 16 → getD channels channel 0 ≡ channel
+unfolding from
+nth-channel channel h = nth-from 0 16 channel h ∙ zero-add channel
 
 -- the three that a rule names: each record has X and Y, and S is stored in a way of its own
 abbrev pub X : ℕ

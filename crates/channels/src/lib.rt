@@ -1,6 +1,6 @@
 // The sixteen channels of ISO/IEC 19794-7:2007: their order and signs, what is said of them, and their numbers as stored and as meant.
 ghost use mathlib.Core.Path.{_≡_};
-ghost use Prim.Native.Nat.{_^_};
+ghost use Prim.Native.Nat.{_^_, _≤_};
 ghost use lib.IntN.{pos};
 ghost use Rattle.channels.specs.Channel.{signs, signedOf, widthOf};
 ghost use Rattle.channels.specs.Stored as stored;
@@ -74,6 +74,16 @@ pub enum Place {
 pub enum Format {
     Full,
     Compact,
+}
+
+// How many bytes a number has in a format.
+pub fn width(format: Format) -> usize
+    ensures { λ r. ⌜ (r ≡ widthOf format) × (r ≤ 2) ⌝ }
+{
+    match format {
+        Format::Full => 2,
+        Format::Compact => 1,
+    }
 }
 
 // Which channels are signed: X, Y, Z, VX, VY, AX, AY, T, DT, F, S, TX, TY, Az, El, R.

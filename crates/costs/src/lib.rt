@@ -9,6 +9,8 @@ use formats::Outcome;
 use readings::PlaceReading;
 use readings::Reading;
 use records::Verdict;
+use refusals::Refusal;
+use refusals::Where;
 use walks::Found;
 
 // What a description says of one channel.
@@ -47,6 +49,15 @@ fn said_of(d: Descriptor) -> Said {
     }
 }
 
+// The place that a refusal names, or 0.
+fn place_of(refusal: Refusal) -> usize {
+    let place = refusals::place(refusal);
+    match place {
+        Where::At(byte) => byte,
+        Where::Nowhere => 0,
+    }
+}
+
 // A verdict: the refusal's number, the length or the refusal's place, the count, and whether there are extended data.
 #[repr(C)]
 pub struct Judgement {
@@ -77,16 +88,9 @@ pub extern "C" fn costs_judge(bytes: &[u8], channel: usize) -> Judgement {
             extended: extended,
             said: said,
         },
-        Verdict::Short => Judgement {
-            number: 1,
-            place: 0,
-            count: 0,
-            extended: false,
-            said: said,
-        },
-        Verdict::Refused { fault, place } => Judgement {
-            number: records::fault_number(fault) as u64,
-            place: place,
+        Verdict::Refused(refusal) => Judgement {
+            number: refusals::number(refusal) as u64,
+            place: place_of(refusal),
             count: 0,
             extended: false,
             said: said,
@@ -121,16 +125,14 @@ pub extern "C" fn costs_describe(bytes: &[u8], compact: bool, channel: usize) ->
             place: end,
             said: said,
         },
-        Outcome::Short => Told {
-            number: 1,
-            place: 0,
-            said: said,
-        },
-        Outcome::Bad(number, place) => Told {
-            number: number as u64,
-            place: place,
-            said: said,
-        },
+        Outcome::Failed(failure) => {
+            let refusal = refusals::of(failure);
+            Told {
+                number: refusals::number(refusal) as u64,
+                place: place_of(refusal),
+                said: said,
+            }
+        }
     }
 }
 
@@ -210,16 +212,16 @@ pub extern "C" fn costs_write(
 ) -> Done {
     let described = descriptions::read(header, 0, Format::Full);
     let description = described.description;
-    let written = records::write(description, count, values, wanted, extended, out);
-    if let records::Written::Record { length } = written {
-        return Done {
+    let written = record_writing::write(description, count, values, wanted, extended, out);
+    match written {
+        record_writing::Written::Record { length } => Done {
             number: 0,
             length: length,
-        };
-    }
-    Done {
-        number: records::written_number(written) as u64,
-        length: 0,
+        },
+        record_writing::Written::Refused(refusal) => Done {
+            number: refusals::number(refusal) as u64,
+            length: 0,
+        },
     }
 }
 
@@ -257,16 +259,9 @@ pub extern "C" fn costs_step(file: &[u8], place: usize) -> Stepped {
             extended: false,
             next: next,
         },
-        Found::Short => Stepped {
-            number: 1,
-            place: 0,
-            count: 0,
-            extended: false,
-            next: next,
-        },
-        Found::Refused { fault, place: at } => Stepped {
-            number: records::fault_number(fault) as u64,
-            place: at,
+        Found::Refused(refusal) => Stepped {
+            number: refusals::number(refusal) as u64,
+            place: place_of(refusal),
             count: 0,
             extended: false,
             next: next,
@@ -285,18 +280,6 @@ pub struct Templated {
     pub said: Said,
 }
 
-fn place_of(fault: templates::Fault) -> usize {
-    match fault {
-        templates::Fault::Short => 0,
-        templates::Fault::Tag => 0,
-        templates::Fault::Length => 0,
-        templates::Fault::Maximum => 0,
-        templates::Fault::XOrY { place } => place,
-        templates::Fault::ReservedBit { place } => place,
-        templates::Fault::LeftOver { place } => place,
-    }
-}
-
 #[no_mangle]
 pub extern "C" fn costs_read_template(bytes: &[u8], channel: usize) -> Templated {
     let judged = templates::read(bytes);
@@ -307,7 +290,7 @@ pub extern "C" fn costs_read_template(bytes: &[u8], channel: usize) -> Templated
     let said = said_of(d);
     let verdict = judged.verdict;
     match verdict {
-        templates::Verdict::Accepted => Templated {
+        refusals::Judgement::Passed => Templated {
             number: 0,
             place: 0,
             described: template.described,
@@ -315,9 +298,9 @@ pub extern "C" fn costs_read_template(bytes: &[u8], channel: usize) -> Templated
             maximum: template.maximum,
             said: said,
         },
-        templates::Verdict::Refused(fault) => Templated {
-            number: templates::fault_number(fault) as u64,
-            place: place_of(fault),
+        refusals::Judgement::Refused(refusal) => Templated {
+            number: refusals::number(refusal) as u64,
+            place: place_of(refusal),
             described: template.described,
             limited: template.limited,
             maximum: template.maximum,
@@ -336,16 +319,16 @@ pub extern "C" fn costs_write_template(
 ) -> Done {
     let described = descriptions::read(header, 0, Format::Compact);
     let description = described.description;
-    let written = templates::write(true, description, limited, maximum, out);
-    if let templates::Written::Done(length) = written {
-        return Done {
+    let written = template_writing::write(true, description, limited, maximum, out);
+    match written {
+        template_writing::Written::Done(length) => Done {
             number: 0,
             length: length,
-        };
-    }
-    Done {
-        number: templates::written_number(written) as u64,
-        length: 0,
+        },
+        template_writing::Written::Refused(refusal) => Done {
+            number: refusals::number(refusal) as u64,
+            length: 0,
+        },
     }
 }
 
@@ -362,8 +345,8 @@ fn read_of(reading: Reading) -> Read {
             number: 0,
             thousandths: n,
         },
-        Reading::OutOfRange => Read {
-            number: 12,
+        Reading::Refused(refusal) => Read {
+            number: refusals::number(refusal) as u64,
             thousandths: 0,
         },
     }

@@ -13,14 +13,15 @@ use Rattle.formats.specs.Bytes.{impossible}
 use borrow.Author.Tests.{eqb-true, eqb-false}
 use Rattle.formats.specs.Binary.{bit}
 use Rattle.formats.specs.Reader.{Reader, done, ok, short, mapped, readAt, bind, one}
-use Rattle.formats.specs.Compose.{at-done, at-pass, at-bind-ok, at-bind-short}
+use Rattle.formats.specs.Compose.{at-done, at-pass, at-bind-ok}
 use Rattle.formats.specs.Number.{number, at-number, at-number-short}
-use Rattle.formats.specs.Told.{told, told-mapped, told-done, told-short}
+use Rattle.formats.specs.Told.{told, told-mapped, told-done, told-failed, at-bind-failed}
 use Rattle.formats.specs.Jump.{Jumps, ends-there, ends-short, jumps-done, jumps-bind}
 use Rattle.channels.specs.Channel.{signedOf}
 use Rattle.channels.specs.Stored.{valueOf}
 use Rattle.channels.specs.declared.Attribute.{Attribute}
 use Rattle.channels.specs.declared.Descriptor.{Descriptor}
+use Rattle.formats.specs.declared.Failure.the-variants.{Short}
 use Rattle.formats.specs.declared.Outcome.the-variants.{Done}
 use Rattle.descriptions.specs.Description.{announced, reserved, attribute, descriptor, isStored}
 use Rattle.descriptions.specs.Read.{attributesSize, descriptorSize}
@@ -53,7 +54,7 @@ module _ {A B C : Type 0} (g : B → C) (r : Reader A) (k : A → Reader B) (n m
     cut = λ s at h q.
         by-cases
         (decLt (length s) (at + n))
-        (λ e. ap (mapped g) (at-bind-short r k s at (told-short (readAt r s at) (sym (f s at h ∙ ends-short s at n e)))))
+        (λ e. ap (mapped g) (at-bind-failed r k s at Short (told-failed (readAt r s at) (sym (f s at h ∙ ends-short s at n e)))))
         (λ e.
         let x = first s at (omega arith) in
         ap (mapped g) (at-bind-ok r k s at (x .1)) ∙ p (x .0) .cut s (at + n) (omega arith) (omega arith));

@@ -5,16 +5,14 @@ use mathlib.Core.Bool.{Bool, true, false}
 use mathlib.Core.Logic.{by-cases}
 use mathlib.Core.List.{List}
 use Prim.Native.Nat.{ℕ, _+_, _*_, _/_, _%_, _≤_, _<_}
-use native.Mathlib.Nat.{zero-add}
 use native.Mathlib.Decide.{decLt}
 use native.Mathlib.Omega.{arith}
 use lib.IntN.{ℤ}
 use lib.ListN.{length, getD}
-use lib.Seq.{getD-drop}
 use borrow.Author.Tests.{eq-eqb, ne-eqb}
 use Rattle.formats.specs.Reader.{ok, short, bad, readAt, bind, map, one, any}
 use Rattle.formats.specs.Compose.{at-done, at-short, at-pass, at-fail, at-bind-ok}
-use Rattle.formats.specs.Number.{number, value, at-number}
+use Rattle.formats.specs.Number.{number}
 use Rattle.formats.specs.Binary.{bit}
 use Rattle.channels.specs.Channel.{signedOf}
 use Rattle.channels.specs.Stored.{valueOf}
@@ -22,17 +20,6 @@ use Rattle.channels.specs.declared.Descriptor.{Descriptor}
 use Rattle.descriptions.specs.Description.{hasXY, reserved, noAttribute, attribute, descriptor, description}
 use Rattle.descriptions.specs.Read.{channelsFrom}
 use Rattle.descriptions.specs.declared.Taken.{Taken}
-
--- ---- A number
-
-module _ (s : List ℕ) (at : ℕ) where
-  pub one-byte : at < length s → readAt (number 1) s at ≡ ok (0 * 256 + getD s at 0) (at + 1)
-  unfolding value
-  one-byte h = let e : at + 0 ≡ at = omega arith in rw (getD-drop at s 0 0, e) at (at-number 1 s at (omega arith))
-
-  pub two-bytes : at + 2 ≤ length s → readAt (number 2) s at ≡ ok (getD s at 0 * 256 + getD s (at + 1) 0) (at + 2)
-  unfolding value
-  two-bytes h = let e : at + 0 ≡ at = omega arith in rw (getD-drop at s 0 0, getD-drop at s 1 0, e, zero-add) at (at-number 2 s at h)
 
 -- ---- An attribute
 

@@ -1,46 +1,32 @@
 -- What a loop over the channels has of a description when it has gone through some of them, and what the whole answers from there:
 -- one account for the loop that reads descriptors and for the one that only measures them.
 use mathlib.Core.Path.{_≡_, refl, sym, ap, _∙_}
-use mathlib.Core.Bool.{true, false}
+use mathlib.Core.Bool.{Bool, true, false}
 use mathlib.Core.List.{List, [], _∷_, _++_}
 use mathlib.Core.List as list
 use Prim.Native.Nat.{ℕ, zero, suc, _+_, _≤_, _<_}
-use native.Mathlib.Nat.{zero-add}
 use native.Mathlib.Numerals.{add-one}
 use native.Mathlib.Omega.{arith}
 use lib.ListN.{length, getD, set, take, drop, replicate, length-set}
 use lib.Seq.{getD-set-other, take-suc, take-suc-set}
-use types.Run.{OneOf, miss}
-use denote.Enum.Declared.{tagOf}
-use Rattle.formats.proofs.Outcome.{the-type}
-use Rattle.formats.specs.Reader.{Reader, Answer, ok, short, bad, mapped, readAt, each}
+use Rattle.formats.specs.Reader.{Reader, Answer, ok, mapped, readAt, each}
 use Rattle.formats.specs.Compose.{at-done, at-map}
-use Rattle.formats.specs.Gathered.{Gathered, gathered-none, gathered-more, gathered-short, gathered-bad, gathered-all}
-use Rattle.formats.specs.Told.{told, told-short, told-bad}
+use Rattle.formats.specs.Gathered.{Gathered, gathered-none, gathered-more, gathered-failed, gathered-all}
+use Rattle.formats.specs.Told.{told, failed, mapped-failed, told-failed}
+use Rattle.formats.specs.declared.Failure.{Failure}
+use Rattle.formats.specs.declared.Failure.the-variants.{Short, Bad}
 use Rattle.formats.specs.declared.Outcome.{Outcome}
-use Rattle.formats.specs.declared.Outcome.the-variants.{Done, Short, Bad}
-use Rattle.channels.specs.Channel.{channels}
+use Rattle.formats.specs.declared.Outcome.the-variants.{Done, Failed}
+use Rattle.channels.specs.Channel.{channels, nth-channel}
 use Rattle.channels.specs.declared.Descriptor.{Descriptor}
 use Rattle.channels.specs.declared.Description.{Description}
-use Rattle.descriptions.specs.Description.{absent, descriptor, includes, channelOf}
-use Rattle.descriptions.specs.Encoded.{from}
-use Rattle.descriptions.specs.Read.{described, ended, measured, unmeasured, behind, channelsFrom}
+use Rattle.descriptions.specs.Description.{absent, descriptor, includes, channelOf, isStored}
+use Rattle.descriptions.specs.Read.{described, ended, behind, channelsFrom}
 
 -- ---- Lists
 
--- a channel stands at its own place
-nth-from : (i n k : ℕ) → k < n → getD (from i n) k 0 ≡ i + k
-unfolding from
-nth-from i zero k h = absurd (omega arith)
-nth-from i (suc n) zero h = omega arith
-nth-from i (suc n) (suc k) h = nth-from (suc i) n k (omega arith) ∙ omega arith
-
-nth-channel : (k : ℕ) → k < 16 → getD channels k 0 ≡ k
-unfolding from
-nth-channel k h = nth-from 0 16 k h ∙ zero-add k
-
 -- an image of a list in which one thing is set
-pub map-set : {A B : Type 0} (g : A → B) (l : List A) (i : ℕ) (v : A) → set (list.map g l) i (g v) ≡ list.map g (set l i v)
+map-set : {A B : Type 0} (g : A → B) (l : List A) (i : ℕ) (v : A) → set (list.map g l) i (g v) ≡ list.map g (set l i v)
 map-set g [] i v = refl
 map-set g (x ∷ l) zero v = refl
 map-set g (x ∷ l) (suc i) v = ap (λ m. g x ∷ m) (map-set g l i v)
@@ -65,89 +51,87 @@ unset-all n channel i h = go n i
     go (suc n) zero = refl
     go (suc n) (suc i) = go n i
 
--- ---- An outcome that a match has told from Done
-
-pub not-done : (o : Outcome) → OneOf (1 ∷ 2 ∷ []) (tagOf the-type o) → (n : ℕ) → o ≡ Done n → ⊥
-not-done o k n e = miss (1 ∷ 2 ∷ []) 0 tt (rw e at k)
-
 -- ---- The channels that were gone through
 
+-- where there is no description
+failed-described : (x : Answer Description) {o : Outcome} (f : Failure) → o ≡ Failed f → x ≡ failed f → ended o ≡ described x
+unfolding described
+failed-described x Short h e = ap ended h ∙ sym (ap described e)
+failed-described x (Bad k p) h e = ap ended h ∙ sym (ap described e)
+
 module _ (w inclusion : ℕ) (s : List ℕ) (start : ℕ) where
-  -- these descriptors were read of the channels before this one, nothing is said of those left, and the next descriptor stands here
-  pub record Gone (ds : List Descriptor) (channel at : ℕ) : Type 0 where
+  -- these descriptors were read of the channels before this one and these flags are theirs, nothing is said of the channels left, and the next descriptor stands here
+  pub record Gone (ds : List Descriptor) (included stored : List Bool) (channel at : ℕ) : Type 0 where
     pub sixteen : length ds ≡ 16
     pub unset : Unset ds channel
     pub gathered : Gathered channels (channelOf w inclusion) s start ds channel at
+    pub included-same : included ≡ list.map (λ c. c .included) ds
+    pub stored-same : stored ≡ list.map isStored ds
 
-  pub gone-none : Gone (replicate 16 absent) 0 start
-  gone-none = record { sixteen = refl; unset = unset-all 16 0; gathered = gathered-none channels (channelOf w inclusion) s start (replicate 16 absent) }
+  pub gone-none : Gone (replicate 16 absent) (replicate 16 false) (replicate 16 false) 0 start
+  gone-none = record {
+    sixteen = refl;
+    unset = unset-all 16 0;
+    gathered = gathered-none channels (channelOf w inclusion) s start (replicate 16 absent);
+    included-same = refl;
+    stored-same = refl;
+  }
 
-  module _ (ds : List Descriptor) (channel at : ℕ) (g : Gone ds channel at) (h : channel < 16) where
-    -- a channel has its descriptor where it is included, else no bytes
-    included : includes inclusion channel ≡ true → readAt (channelOf w inclusion (getD channels channel 0)) s at ≡ readAt (descriptor w channel) s at
-    unfolding channelOf
-    included e = rw (nth-channel channel h, e)
+  module _ (ds : List Descriptor) (included stored : List Bool) (channel at : ℕ) (g : Gone ds included stored channel at) where
+    module _ (h : channel < 16) where
+      -- a channel has its descriptor where it is included, else no bytes
+      with-descriptor : includes inclusion channel ≡ true → readAt (channelOf w inclusion (getD channels channel 0)) s at ≡ readAt (descriptor w channel) s at
+      unfolding channelOf
+      with-descriptor e = rw (nth-channel channel h, e)
 
-    left-out : includes inclusion channel ≡ false → readAt (channelOf w inclusion (getD channels channel 0)) s at ≡ ok absent at
-    unfolding channelOf
-    left-out e = rw (nth-channel channel h, e) (at-done absent s at)
+      left-out : includes inclusion channel ≡ false → readAt (channelOf w inclusion (getD channels channel 0)) s at ≡ ok absent at
+      unfolding channelOf
+      left-out e = rw (nth-channel channel h, e) (at-done absent s at)
 
-    pub gone-absent : includes inclusion channel ≡ false → Gone ds (channel + 1) at
-    gone-absent e = record {
-      sixteen = g .sixteen;
-      unset = λ i q. g .unset i (omega arith);
-      gathered =
-          gathered-kept channels _ s start ds channel at absent absent (omega (arith, g .sixteen)) (g .unset channel (omega arith))
-          (gathered-more channels _ s start 0 ds channel at h (g .gathered) (omega (arith, g .sixteen)) (left-out e));
-    }
+      pub gone-absent : includes inclusion channel ≡ false → Gone ds included stored (channel + 1) at
+      gone-absent e = record {
+        sixteen = g .sixteen;
+        unset = λ i q. g .unset i (omega arith);
+        gathered =
+            gathered-kept channels _ s start ds channel at absent absent (omega (arith, g .sixteen)) (g .unset channel (omega arith))
+            (gathered-more channels _ s start 0 ds channel at h (g .gathered) (omega (arith, g .sixteen)) (left-out e));
+        included-same = g .included-same;
+        stored-same = g .stored-same;
+      }
 
-    pub gone-on : includes inclusion channel ≡ true → {d : Descriptor} {n : ℕ} → readAt (descriptor w channel) s at ≡ ok d n → Gone (set ds channel d) (channel + 1) n
-    gone-on e {d} f = record {
-      sixteen = length-set ds channel d ∙ g .sixteen;
-      unset = λ i q. getD-set-other ds channel i d absent (λ z. omega arith) ∙ g .unset i (omega arith);
-      gathered = gathered-more channels _ s start 0 ds channel at h (g .gathered) (omega (arith, g .sixteen)) (included e ∙ f);
-    }
+      pub gone-on : includes inclusion channel ≡ true → {d : Descriptor} {n : ℕ} {a b : Bool} → readAt (descriptor w channel) s at ≡ ok d n → a ≡ d .included → b ≡ isStored d
+          → Gone (set ds channel d) (set included channel a) (set stored channel b) (channel + 1) n
+      gone-on e {d} f p q = record {
+        sixteen = length-set ds channel d ∙ g .sixteen;
+        unset = λ i q. getD-set-other ds channel i d absent (λ z. omega arith) ∙ g .unset i (omega arith);
+        gathered = gathered-more channels _ s start 0 ds channel at h (g .gathered) (omega (arith, g .sixteen)) (with-descriptor e ∙ f);
+        included-same = rw (p, g .included-same) (map-set (λ c. c .included) ds channel d);
+        stored-same = rw (q, g .stored-same) (map-set isStored ds channel d);
+      }
 
-    -- a descriptor that ends it ends the whole
-    pub gone-no-further : includes inclusion channel ≡ true → (o : Outcome) → ((n : ℕ) → o ≡ Done n → ⊥) → o ≡ told (readAt (descriptor w channel) s at)
-        → o ≡ told (readAt (channelsFrom w inclusion) s start)
-    unfolding channelsFrom told mapped
-    gone-no-further e (Done n) q f = absurd (q n refl)
-    gone-no-further e Short q f =
-        sym (ap told (at-map _ _ s start ∙ ap (mapped _) (gathered-short channels _ s start 0 ds channel at h (g .gathered) (included e ∙ told-short _ f))))
-    gone-no-further e (Bad k p) q f =
-        sym (ap told (at-map _ _ s start ∙ ap (mapped _) (gathered-bad channels _ s start 0 ds channel at h (g .gathered) (included e ∙ told-bad _ f))))
+      -- where a descriptor fails, the whole does
+      pub gone-failed : includes inclusion channel ≡ true → {o : Outcome} {f : Failure} → o ≡ Failed f → o ≡ told (readAt (descriptor w channel) s at)
+          → ended o ≡ described (readAt (channelsFrom w inclusion) s start)
+      unfolding channelsFrom
+      gone-failed e {f = f} q z =
+          failed-described _ f q
+          (at-map _ _ s start
+          ∙ ap (mapped _) (gathered-failed channels _ s start 0 ds channel at h (g .gathered) f (with-descriptor e ∙ told-failed _ (sym q ∙ z)))
+          ∙ mapped-failed _ f)
 
-  pub gone-all : (ds : List Descriptor) (channel at : ℕ) → Gone ds channel at → 16 ≤ channel → readAt (channelsFrom w inclusion) s start ≡ ok (record { channels = ds }) at
-  unfolding channelsFrom mapped
-  gone-all ds channel at g h = at-map _ _ s start ∙ ap (mapped _) (gathered-all channels _ s start ds channel at h (omega (arith, g .sixteen)) (g .gathered))
+    pub gone-all : 16 ≤ channel → record { outcome = Done at; included = included; stored = stored; description = record { channels = ds } } ≡ described (readAt (channelsFrom w inclusion) s start)
+    unfolding channelsFrom mapped described
+    gone-all h =
+        rw (g .included-same, g .stored-same)
+        (sym (ap described (at-map _ _ s start ∙ ap (mapped _) (gathered-all channels _ s start ds channel at h (omega (arith, g .sixteen)) (g .gathered)))))
 
--- ---- How it ended
+-- ---- Behind the inclusion bytes
 
--- behind the inclusion bytes, where they are admitted, and where they are not
-module _ {A : Type 0} (next : ℕ → Answer A) {x : Answer A} where
-  pub behind-done : {o : Outcome} {n : ℕ} → o ≡ Done n → x ≡ behind next o → x ≡ next n
+module _ (next : ℕ → Answer Description) {x : Answer Description} {o : Outcome} where
+  pub behind-done : {n : ℕ} → o ≡ Done n → x ≡ behind next o → x ≡ next n
   unfolding behind
   behind-done h e = e ∙ ap (behind next) h
 
-  pub behind-ended : (o : Outcome) → ((n : ℕ) → o ≡ Done n → ⊥) → x ≡ behind next o → o ≡ told x
-  unfolding behind told
-  behind-ended (Done n) q e = absurd (q n refl)
-  behind-ended Short q e = sym (ap told e)
-  behind-ended (Bad k p) q e = sym (ap told e)
-
--- where there is no description: by what is answered then
-module _ {B : Type 0} (answer : Answer Description → B) (refused : Outcome → B) (s : refused Short ≡ answer short) (b : (k p : ℕ) → refused (Bad k p) ≡ answer (bad k p)) where
-  ended-by : (o : Outcome) (x : Answer Description) → ((n : ℕ) → o ≡ Done n → ⊥) → o ≡ told x → refused o ≡ answer x
-  unfolding told
-  ended-by o (ok d n) q e = absurd (q n e)
-  ended-by o short q e = ap refused e ∙ s
-  ended-by o (bad k p) q e = ap refused e ∙ b k p
-
-pub described-ended : (o : Outcome) (x : Answer Description) → ((n : ℕ) → o ≡ Done n → ⊥) → o ≡ told x → ended o ≡ described x
-unfolding described
-described-ended = ended-by described ended refl (λ k p. refl)
-
-pub measured-ended : (o : Outcome) (x : Answer Description) → ((n : ℕ) → o ≡ Done n → ⊥) → o ≡ told x → unmeasured o ≡ measured x
-unfolding measured
-measured-ended = ended-by measured unmeasured refl (λ k p. refl)
+  pub behind-failed : {f : Failure} → o ≡ Failed f → x ≡ behind next o → ended o ≡ described x
+  unfolding behind
+  behind-failed {f} h e = failed-described x f h (e ∙ ap (behind next) h)

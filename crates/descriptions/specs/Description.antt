@@ -5,9 +5,9 @@ use mathlib.Core.Bool.{Bool, true, false, not, cond, _&&_, _||_}
 use mathlib.Core.List.{List, [], _∷_, _++_, map}
 use Prim.Native.Nat.{ℕ, suc, _+_, _-_, _*_}
 use lib.Dec.{T, eqb}
-use lib.IntN.{ℤ, pos, natAbs}
+use lib.IntN.{pos, natAbs}
 use lib.ListN.{length, getD}
-use Rattle.formats.specs.Reader.{Test, Reader, done, one, any, each, _>>=_}
+use Rattle.formats.specs.Reader.{Test, Reader, done, one, any, each, _>>=_, _>>_}
 use Rattle.formats.specs.Number.{number, digits}
 use Rattle.formats.specs.Writes.{encodeEach}
 use Rattle.channels.specs.Channel.{X, Y, channels, signedOf}

@@ -1,19 +1,23 @@
 -- What the code that reads a description answers.
-use mathlib.Core.Path.{_≡_}
+use mathlib.Core.Path.{_≡_, refl, sym, ap, _∙_}
 use mathlib.Core.Bool.{Bool, false, cond}
 use mathlib.Core.List as list
 use Prim.Native.Nat.{ℕ, _+_}
 use lib.IntN.{ℤ}
 use lib.ListN.{replicate}
 use Rattle.formats.specs.Reader.{Reader, Answer, ok, short, bad, map, each}
+use Rattle.formats.specs.Bytes.{impossible}
+use Rattle.formats.specs.Told.{told, failed, told-failed}
 use Rattle.formats.specs.Binary.{bit}
+use Rattle.formats.specs.declared.Failure.{Failure}
+use Rattle.formats.specs.declared.Failure.the-variants.{Short, Bad}
 use Rattle.formats.specs.declared.Outcome.{Outcome}
-use Rattle.formats.specs.declared.Outcome.the-variants.{Done, Short, Bad}
+use Rattle.formats.specs.declared.Outcome.the-variants.{Done, Failed}
 use Rattle.channels.specs.Channel.{channels}
 use Rattle.channels.specs.Stored.{valueOf}
 use Rattle.channels.specs.declared.Description.{Description}
 use Rattle.descriptions.specs.Description.{absent, channelOf, isStored}
-use Rattle.descriptions.specs.declared.Opening.{Opening}
+use Rattle.descriptions.specs.declared.Inclusion.{Inclusion}
 use Rattle.descriptions.specs.declared.Described.{Described}
 use Rattle.descriptions.specs.declared.Measured.{Measured}
 
@@ -23,33 +27,51 @@ nothing = record { channels = replicate 16 absent }
 
 -- how it ended, where there is no description
 abbrev pub ended : Outcome → Described
-ended o = record { outcome = o; stored = replicate 16 false; description = nothing }
+ended o = record { outcome = o; included = replicate 16 false; stored = replicate 16 false; description = nothing }
 
--- how it ended, of each channel whether a sample point holds a number of it, and the description where there is one
+-- how it ended, of each channel whether it is included and whether a sample point holds a number of it, and the description where there is one
 unfoldable pub described : Answer Description → Described
-described (ok d n) = record { outcome = Done n; stored = list.map isStored (d .channels); description = d }
-described short = ended Short
-described (bad k p) = ended (Bad k p)
+described (ok d n) = record {
+  outcome = Done n;
+  included = list.map (λ c. c .included) (d .channels);
+  stored = list.map isStored (d .channels);
+  description = d;
+}
+described short = ended (Failed Short)
+described (bad k p) = ended (Failed (Bad k p))
 
--- how it ended, and of each channel whether it is included and whether a sample point holds a number of it
-abbrev pub unmeasured : Outcome → Measured
-unmeasured o = record { outcome = o; included = replicate 16 false; stored = replicate 16 false }
+-- the same without the description
+abbrev pub undescribed : Described → Measured
+undescribed d = record { outcome = d .outcome; included = d .included; stored = d .stored }
 
 unfoldable pub measured : Answer Description → Measured
-measured (ok d n) = record { outcome = Done n; included = list.map (λ c. c .included) (d .channels); stored = list.map isStored (d .channels) }
-measured short = unmeasured Short
-measured (bad k p) = unmeasured (Bad k p)
+measured x = undescribed (described x)
+
+-- what was described, taken back to the answer
+outcome-told : (x : Answer Description) → described x .outcome ≡ told x
+unfolding described told
+outcome-told (ok d n) = refl
+outcome-told short = refl
+outcome-told (bad k p) = refl
+
+pub described-done : (x : Answer Description) {n : ℕ} → described x .outcome ≡ Done n → x ≡ ok (described x .description) n
+unfolding described
+described-done (ok d m) e = ap (ok d) (cc)
+described-done short e = impossible (cc)
+described-done (bad k p) e = impossible (cc)
+
+pub described-failed : (x : Answer Description) {f : Failure} → described x .outcome ≡ Failed f → x ≡ failed f
+described-failed x e = told-failed x (sym e ∙ outcome-told x)
 
 -- ---- What its parts answer
 
-abbrev pub unopened : Outcome → Opening
-unopened o = record { outcome = o; inclusion = 0 }
+abbrev pub noInclusion : Failure → Inclusion
+noInclusion f = record { outcome = Failed f; bits = 0 }
 
 -- what is read behind a part, by how that ended
 unfoldable pub behind : {A : Type 0} → (ℕ → Answer A) → Outcome → Answer A
 behind next (Done n) = next n
-behind next Short = short
-behind next (Bad k p) = bad k p
+behind next (Failed f) = failed f
 
 -- the descriptors, behind the inclusion bytes
 unfoldable pub channelsFrom : (w inclusion : ℕ) → Reader Description

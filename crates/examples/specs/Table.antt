@@ -14,6 +14,13 @@ use Rattle.formats.specs.Reader as reader
 use Rattle.formats.specs.Reader.{Answer, next, run, bind, each, times, one, free, literal}
 use Rattle.formats.specs.Number as numbers
 use Rattle.formats.specs.Number.{number}
+use Rattle.refusals.specs.Table.{numberOf, placeOf, named, refusalOf}
+use Rattle.refusals.specs.declared.Where.{Where}
+use Rattle.refusals.specs.declared.Where.the-variants.{At, Nowhere}
+use Rattle.refusals.specs.declared.Refusal.{Refusal}
+use Rattle.refusals.specs.declared.Refusal.the-variants.{Short, Identifier, XOrY, ReservedBit, OpeningBits, NoPoint, Maximum}
+use Rattle.refusals.specs.declared.Judgement.{Judgement}
+use Rattle.refusals.specs.declared.Judgement.the-variants.{Passed, Refused}
 use Rattle.channels.specs.Channel.{signedOf}
 use Rattle.channels.specs.Stored.{offset, valueOf}
 use Rattle.channels.specs.Switch.{stateOf}
@@ -23,21 +30,15 @@ use Rattle.channels.specs.declared.Place.{Place}
 use Rattle.channels.specs.declared.Place.the-variants.{Absent, Constant, Number}
 use Rattle.descriptions.specs.Description.{noAttribute, absent, attribute, descriptor, includes, channelOf, description}
 use Rattle.descriptions.specs.Read.{nothing}
-use Rattle.records.specs.Record.{Record, storedFrom, stored, sample, point, extension, fullRecord}
-use Rattle.records.specs.Places.{placesOf, places}
-use Rattle.records.specs.Points.{nowhere}
-use Rattle.records.specs.Verdict.{numberOf, faultOf, present, judged, judgedWhole, pointedAt, placesIn}
-use Rattle.records.specs.Numbers.{Numbered, accepted, refused, refusedAt, numbered}
-use Rattle.records.specs.declared.Fault.{Fault}
-use Rattle.records.specs.declared.Fault.the-variants.{Identifier, XOrY, ReservedBit, OpeningBits}
+use Rattle.points.specs.Points.{storedFrom, channels, sample, point}
+use Rattle.points.specs.Places.{placesOf, nowhere}
+use Rattle.records.specs.Record.{Record, extension, fullRecord}
+use Rattle.records.specs.Verdict.{present, verdictFrom, descriptionIn, judged, judgedWhole, pointedAt, placesIn}
 use Rattle.records.specs.declared.Verdict.{Verdict}
 use Rattle.records.specs.declared.Verdict.the-variants as verdict
 use Rattle.records.specs.declared.Judged.{Judged}
 use Rattle.records.specs.declared.Pointed.{Pointed}
 use Rattle.records.specs.declared.Pointed.the-variants as pointed
-use Rattle.templates.specs.declared.Fault.the-variants.{Maximum}
-use Rattle.templates.specs.declared.Verdict as verdicts
-use Rattle.templates.specs.declared.Verdict.the-variants.{Accepted, Refused}
 use Rattle.templates.specs.declared.Judged as judgement
 use Rattle.templates.specs.Reading as templates
 use Rattle.templates.specs.Reading.{saying, withContent, isShortest, atEnd, limitedBy, limitedFrom, filling, describedBy, contentOf, lengthAndContent, templateOf}
@@ -52,6 +53,14 @@ pub data Question : Type 0 where
   template : List ℕ → Question
   scaled : (e f : ℕ) → List ℤ → Question
 
+-- no refusal; or one, by document 01's number and the place that it names
+pub data Numbered : Type 0 where
+  accepted : Numbered
+  refused : (number : ℕ) → Where → Numbered
+
+abbrev numbered : Refusal → Numbered
+numbered refusal = refused (numberOf refusal) (placeOf refusal)
+
 -- what is said of some bytes
 pub record Said : Type 0 where
   pub front : Judged  -- by judge
@@ -65,20 +74,23 @@ pub data Answered : Type 0 where
   judgedAs : Numbered → judgement.Judged → Answered
   read : List readings.Answer → Answered
 
+unfoldable pub verdictNumber : Verdict → Numbered
+verdictNumber (verdict.Record n count extended) = accepted
+verdictNumber (verdict.Refused refusal) = numbered refusal
+
+unfoldable pub templateNumber : Judgement → Numbered
+templateNumber Passed = accepted
+templateNumber (Refused refusal) = numbered refusal
+
 -- what is said, by what reading the bytes answers
 unfoldable pub saidOf : (size : ℕ) → Answer Record → Said
 saidOf size answer = record {
   front = judged answer;
   whole = judgedWhole size answer;
-  number = numbered (judged answer .verdict);
+  number = verdictNumber (judged answer .verdict);
   pointed = pointedAt 0 answer;
   places = placesIn 0 answer;
 }
-
--- a template's verdict by its number alone; where it has a place, that stands in the fault
-unfoldable pub templateNumber : verdicts.Verdict → Numbered
-templateNumber Accepted = accepted
-templateNumber (Refused fault) = refused (templates.numberOf fault)
 
 unfoldable pub answered : Question → Answered
 answered (bytes b) = said (saidOf (length b) (run fullRecord b))
@@ -99,17 +111,17 @@ says v d number pointed places = said (record {
 
 -- a record of some length, without extended data: with no points, and with one
 abbrev empty : (length : ℕ) → Description → Answered
-empty n d = says (verdict.Record n 0 false) d accepted pointed.NoPoint nowhere
+empty n d = says (verdict.Record n 0 false) d accepted (pointed.Refused NoPoint) nowhere
 
 abbrev single : (length : ℕ) → Description → List Place → Answered
 single n d places = says (verdict.Record n 1 false) d accepted pointed.Point places
 
--- refusal 1; and another by its number and its name, with a place
-abbrev short : Answered
-short = says verdict.Short nothing (refused 1) pointed.Short nowhere
+-- a refusal, with its number and its place; 1 has none
+abbrev refusal : (number : ℕ) → Where → Refusal → Answered
+refusal number place r = says (verdict.Refused r) nothing (refused number place) (pointed.Refused r) nowhere
 
-abbrev refusal : ℕ → Fault → (place : ℕ) → Answered
-refusal number fault place = says (verdict.Refused fault place) nothing (refusedAt number place) (pointed.Refused fault place) nowhere
+abbrev short : Answered
+short = refusal 1 Nowhere Short
 
 -- X and Y, and no other channel: what is said of them, and a point of them
 abbrev plain : (constant : Bool) → Descriptor
@@ -155,21 +167,21 @@ table =
     (bytes M is empty 17 both)  -- P1
     ∷ (bytes (take 16 M) is short)  -- P2
     ∷ (bytes [] is short)  -- P3
-    ∷ (bytes (0x53 ∷ 0x45 ∷ []) is refusal 2 Identifier 1)  -- P4
-    ∷ (bytes (set M 8 0x40) is refusal 4 XOrY 8)  -- P5
-    ∷ (bytes (set M 10 0x01) is refusal 5 ReservedBit 10)  -- P6
-    ∷ (bytes (set M 13 0x01) is refusal 7 OpeningBits 13)  -- P7
+    ∷ (bytes (0x53 ∷ 0x45 ∷ []) is refusal 2 (At 1) (Identifier 1))  -- P4
+    ∷ (bytes (set M 8 0x40) is refusal 4 (At 8) (XOrY (At 8)))  -- P5
+    ∷ (bytes (set M 10 0x01) is refusal 5 (At 10) (ReservedBit 10))  -- P6
+    ∷ (bytes (set M 13 0x01) is refusal 7 (At 13) (OpeningBits 13))  -- P7
     ∷ (bytes (set M 16 0x01 ++ 0x7F ∷ 0xFF ∷ 0x80 ∷ 0x00 ∷ []) is single 21 both (xy (Number (negsuc 0)) (Number (pos 0))))  -- P8: X -1, Y 0
     ∷ (bytes (set (set M 10 0x04) 16 0x01 ++ 0x80 ∷ 0x05 ∷ []) is single 19 constantX (xy Constant (Number (pos 5))))  -- P9: X constant, Y 5
     ∷ (template (0xB1 ∷ 0x03 ∷ 0x82 ∷ 0x01 ∷ 0x64 ∷ []) is judgedAs accepted (templates.accepted (saying false nothing true 100)))  -- P10
-    ∷ (template (0xB1 ∷ 0x04 ∷ 0x82 ∷ 0x02 ∷ 0x00 ∷ 0x64 ∷ []) is judgedAs (refused 18) (templates.refused Maximum))  -- P11
+    ∷ (template (0xB1 ∷ 0x04 ∷ 0x82 ∷ 0x02 ∷ 0x00 ∷ 0x64 ∷ []) is judgedAs (refused 18 Nowhere) (templates.refused Maximum))  -- P11
     ∷ (scaled 26 1952 (pos 1 ∷ negsuc 0 ∷ pos 3 ∷ []) is read (value (pos 1) ∷ value (negsuc 0) ∷ value (pos 2) ∷ []))  -- P12: 1, -1 and 3 are 1, -1 and 2
     ∷ []
 
 pub examples : map (λ e. answered (e .question)) table ≡ map (λ e. e .answer) table
 unfolding answered saidOf run next bind reader.map each times one free literal number valueOf offset signedOf attribute descriptor includes channelOf description
-    storedFrom stored stateOf sample point extension fullRecord placesOf places
-    faultOf present judged judgedWhole numbered pointedAt placesIn
+    storedFrom channels stateOf sample point extension fullRecord placesOf
+    named refusalOf present verdictFrom descriptionIn verdictNumber judgedWhole pointedAt placesIn
     numbers.value nothing templateNumber withContent isShortest atEnd limitedBy limitedFrom filling describedBy contentOf lengthAndContent templateOf
     nearest thousandths defined reading
 examples = refl

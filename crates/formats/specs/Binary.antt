@@ -1,5 +1,5 @@
 -- A number by its bits.
-use mathlib.Core.Path.{_≡_, refl, sym, ap, ap₂, _∙_}
+use mathlib.Core.Path.{_≡_, refl, sym, ap, _∙_}
 use mathlib.Core.Bool.{Bool, true, false, cond}
 use mathlib.Core.List.{List, [], _∷_}
 use Prim.Native.Nat.{ℕ, zero, suc, _+_, _-_, _*_, _/_, _%_, _^_, _<_}
@@ -7,9 +7,8 @@ use native.Mathlib.Nat.{pow-suc, mod-lt, mod-eq-of-lt}
 use native.Mathlib.Omega.{arith}
 use lib.Dec.{eqb}
 use lib.ListN.{length}
-use lib.Pow.{mod-pow-add, pow-pos}
+use lib.Pow.{mod-pow-add}
 use borrow.Author.Tests.{eqb-true, eqb-false}
-use Rattle.formats.specs.Bytes.{impossible}
 
 -- bit k of a number, the lowest is bit 1, as the standard counts them
 abbrev pub bit : ℕ → ℕ → Bool

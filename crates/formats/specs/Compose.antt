@@ -1,12 +1,10 @@
 -- What a composed reader answers, by its parts: the laws that code is proved by, a byte or a field at a time.
 use mathlib.Core.Path.{_≡_, refl, sym, ap, _∙_}
 use mathlib.Core.Bool.{Bool, true, false}
-use mathlib.Core.Logic.{by-cases}
 use mathlib.Core.List.{List, [], _∷_}
-use Prim.Native.Nat.{ℕ, zero, suc, _+_, _-_, _*_, _≤_, _<_}
+use Prim.Native.Nat.{ℕ, zero, suc, _+_, _-_, _≤_, _<_}
 use native.Mathlib.Nat.{zero-add, suc-add, add-assoc, not-suc-le-zero}
 use native.Mathlib.Numerals.{add-one}
-use native.Mathlib.Decide.{decLt}
 use native.Mathlib.Omega.{arith}
 use lib.ListN.{length, take, drop, getD, length-drop, drop-of-length-le}
 use lib.Seq.{drop-cons, drop-drop}
@@ -138,14 +136,6 @@ module _ {A B : Type 0} (r : Reader A) (k : A → Reader B) (s : List ℕ) (at :
   unfolding andThen
   at-bind-ok e = rw e at (at-bind k r s at)
 
-  pub at-bind-short : readAt r s at ≡ short → readAt (bind r k) s at ≡ short
-  unfolding andThen
-  at-bind-short e = rw e at (at-bind k r s at)
-
-  pub at-bind-bad : {j p : ℕ} → readAt r s at ≡ bad j p → readAt (bind r k) s at ≡ bad j p
-  unfolding andThen
-  at-bind-bad e = rw e at (at-bind k r s at)
-
 -- a reader that starts in a string ends in it, no earlier
 module _ {A : Type 0} (r : Reader A) (s : List ℕ) (at : ℕ) where
   within-by : {v : A} {n : ℕ} (x : Answer A) → run r (drop at s) ≡ x → after at x ≡ ok v n → at ≤ length s → (at ≤ n) × (n ≤ length s)
@@ -165,14 +155,6 @@ module _ {A B : Type 0} (r : Reader A) (k : A → Reader B) (s : List ℕ) where
   pub bind-ok : {v : A} {n : ℕ} → run r s ≡ ok v n → run (bind r k) s ≡ readAt (k v) s n
   unfolding andThen
   bind-ok e = rw e at (run-bind k r s)
-
-  pub bind-short : run r s ≡ short → run (bind r k) s ≡ short
-  unfolding andThen
-  bind-short e = rw e at (run-bind k r s)
-
-  pub bind-bad : {j p : ℕ} → run r s ≡ bad j p → run (bind r k) s ≡ bad j p
-  unfolding andThen
-  bind-bad e = rw e at (run-bind k r s)
 
 pub run-map : {A B : Type 0} (g : A → B) (r : Reader A) (s : List ℕ) → run (map g r) s ≡ mapped g (run r s)
 run-map g r s = sym (at-start (map g r) s) ∙ at-map g r s 0 ∙ ap (mapped g) (at-start r s)

@@ -16,7 +16,9 @@ use borrow.Author.Tests.{eqb-true, eqb-false, ne-eqb, eq-eqb}
 use Rattle.formats.specs.Bytes.{Bytes, bytes-drop, impossible}
 use Rattle.formats.specs.Reader.{Test, Reader, done, Answer, ok, short, bad, next, after, run, readAt, bind, map, each, times, one, any, free, literal, is}
 use Rattle.formats.specs.Law.{run-fail, refused}
-use Rattle.formats.specs.Compose.{bind-ok, bind-short, bind-bad}
+use Rattle.formats.specs.Compose.{bind-ok}
+use Rattle.formats.specs.Told.{run-bind-failed}
+use Rattle.formats.specs.declared.Failure.the-variants.{Short, Bad}
 use Rattle.formats.specs.Number.{number}
 use Rattle.formats.specs.Writes.{Writes, All, Each, encodeEach, read-written, written-read, writes-one}
 
@@ -72,9 +74,9 @@ module _ {A B : Type 0} (r : Reader A) (k : A → Reader B) where
   stopped-by : (s : List ℕ) {j p : ℕ} (x : Answer A) → run r s ≡ x → run (bind r k) s ≡ bad j p → Stopped s j p
   unfolding readAt
   stopped-by s (ok v n) e g = stopped-second s (run (k v) (drop n s)) e refl (sym (bind-ok r k s e) ∙ g)
-  stopped-by s short e g = impossible (cc (bind-short r k s e))
+  stopped-by s short e g = impossible (cc (run-bind-failed r k s Short e))
   stopped-by s {j} {p} (bad i m) e g =
-      let x : run (bind r k) s ≡ bad i m = bind-bad r k s e in
+      let x : run (bind r k) s ≡ bad i m = run-bind-failed r k s (Bad i m) e in
       let a : i ≡ j = cc in
       let b : m ≡ p = cc in
       first (e ∙ ap₂ bad a b)
@@ -94,7 +96,7 @@ module _ {A B : Type 0} {r : Reader A} {k : A → Reader B} where
   pub faults-last : {Breaks : List ℕ → ℕ → ℕ → Type 0} → Faults r Breaks → ((v : A) → Never (k v)) → Faults (bind r k) Breaks
   faults-last {Breaks} f g = record {
     breaks = λ s {k = j} {p} h e. go s j p h (stopped r k s e);
-    refuses = λ before b j t h. bind-bad r k (before ++ b ∷ t) (f .refuses before b j t h);
+    refuses = λ before b j t h. run-bind-failed r k (before ++ b ∷ t) (Bad j (length before)) (f .refuses before b j t h);
   }
     where
       go : (s : List ℕ) (j p : ℕ) → Bytes s → Stopped r k s j p → Breaks (take p s) (getD s p 0) j
@@ -119,7 +121,7 @@ module _ {A B : Type 0} {r : Reader A} {encode : A → List ℕ} {Valid : A → 
 
   bind-refuses : (before : List ℕ) (b j : ℕ) (t : List ℕ) → Then encode Valid Breaks Breaks′ before b j → run (bind r k) (before ++ b ∷ t) ≡ bad j (length before)
   unfolding after readAt
-  bind-refuses before b j t (here x) = bind-bad r k (before ++ b ∷ t) (f .refuses before b j t x)
+  bind-refuses before b j t (here x) = run-bind-failed r k (before ++ b ∷ t) (Bad j (length before)) (f .refuses before b j t x)
   bind-refuses before b j t (later v rest h e x) =
       rw (e, append-assoc (encode v) rest (b ∷ t), length-append (encode v) rest)
       (bind-ok r k (encode v ++ (rest ++ b ∷ t)) (read-written w (rest ++ b ∷ t) h)

@@ -7,6 +7,8 @@ use lib.ListN.{length, take, drop, getD, set, drop-of-length-le}
 use lib.Seq.{drop-cons, take-all, take-suc-set}
 use Rattle.formats.specs.Reader.{Reader, Answer, ok, short, bad, mapped, andThen, readAt, each}
 use Rattle.formats.specs.Compose.{at-done, at-each}
+use Rattle.formats.specs.Told.{failed, mapped-failed, then-failed}
+use Rattle.formats.specs.declared.Failure.{Failure}
 
 -- ---- Images
 
@@ -54,13 +56,8 @@ module _ {I A : Type 0} (l : List I) (f : I → Reader A) (s : List ℕ) (start 
         ∙ mapped-mapped (λ vs. take i a ++ vs) (λ vs. v ∷ vs) (readAt (each (drop (suc i) l) f) s n)
         ∙ rw (add-one i, take-suc-set a i v q) (mapped-same _ _ (λ vs. sym (append-assoc (take i a) (v ∷ []) vs)) (readAt (each (drop (suc i) l) f) s n))
 
-    pub gathered-short : first ≡ short → readAt (each l f) s start ≡ short
-    unfolding andThen mapped
-    gathered-short e = rw e at apart
-
-    pub gathered-bad : {k p : ℕ} → first ≡ bad k p → readAt (each l f) s start ≡ bad k p
-    unfolding andThen mapped
-    gathered-bad e = rw e at apart
+    pub gathered-failed : (x : Failure) → first ≡ failed x → readAt (each l f) s start ≡ failed x
+    gathered-failed x e = rw (e, then-failed, mapped-failed) at apart
 
   pub gathered-all : (a : List A) (i at : ℕ) → length l ≤ i → length a ≤ i → Gathered a i at → readAt (each l f) s start ≡ ok a at
   unfolding each mapped

@@ -1,24 +1,24 @@
 -- Readers of a fixed number of free bytes: code may pass over them at once.
-use mathlib.Core.Path.{_≡_, refl, sym, ap, _∙_}
-use mathlib.Core.Bool.{Bool, true, false, cond}
+use mathlib.Core.Path.{_≡_, sym, ap, _∙_}
+use mathlib.Core.Bool.{cond}
 use mathlib.Core.Logic.{by-cases}
 use mathlib.Core.List.{List, [], _∷_}
 use Prim.Native.Nat.{ℕ, zero, suc, _+_, _*_, _≤_, _<_}
-use native.Mathlib.Nat.{suc-mul}
 use native.Mathlib.Decide.{decLt}
 use native.Mathlib.Omega.{arith}
 use lib.Dec.{leb}
 use lib.ListN.{length}
 use borrow.Author.Tests.{le-leb, lt-leb}
-use Rattle.formats.specs.Reader.{Reader, done, ok, readAt, bind, map, each, times}
+use Rattle.formats.specs.Reader.{Reader, done, readAt, bind, map, times}
 use Rattle.formats.specs.Compose.{at-done}
-use Rattle.formats.specs.Told.{told, told-done, bind-done, bind-short, map-told, each-done, each-short}
+use Rattle.formats.specs.Told.{told, told-done, bind-done, bind-failed, map-told}
+use Rattle.formats.specs.declared.Failure.the-variants.{Short}
 use Rattle.formats.specs.declared.Outcome.{Outcome}
-use Rattle.formats.specs.declared.Outcome.the-variants.{Done, Short}
+use Rattle.formats.specs.declared.Outcome.the-variants.{Done, Failed}
 
 -- where n bytes from a place end, if they are there
 unfoldable pub ends : List ℕ → ℕ → ℕ → Outcome
-ends s at n = cond (leb (at + n) (length s)) (Done (at + n)) Short
+ends s at n = cond (leb (at + n) (length s)) (Done (at + n)) (Failed Short)
 
 -- r reads n bytes, whatever they are
 abbrev pub Jumps : {A : Type 0} → Reader A → ℕ → Type 0
@@ -29,7 +29,7 @@ module _ (s : List ℕ) (at n : ℕ) where
   unfolding ends
   ends-there h = rw (le-leb (at + n) (length s) h)
 
-  pub ends-short : length s < at + n → ends s at n ≡ Short
+  pub ends-short : length s < at + n → ends s at n ≡ Failed Short
   unfolding ends
   ends-short h = rw (lt-leb (at + n) (length s) h)
 
@@ -49,7 +49,7 @@ module _ {A B : Type 0} (r : Reader A) (k : A → Reader B) (n m : ℕ) where
   jumps-bind f g s at h =
       by-cases
       (decLt (length s) (at + n))
-      (λ q. bind-short r k s at (sym (f s at h ∙ ends-short s at n q)) ∙ sym (ends-short s at (n + m) (omega arith)))
+      (λ q. bind-failed r k s at (sym (f s at h ∙ ends-short s at n q)) ∙ sym (ends-short s at (n + m) (omega arith)))
       (λ q.
       let x = told-done (readAt r s at) (sym (f s at h ∙ ends-there s at n (omega arith))) in
       bind-done r k s at (x .1) ∙ g (x .0) s (at + n) (omega arith) ∙ ends-sum s at n m)

@@ -9,7 +9,10 @@ use native.Mathlib.Omega.{arith}
 use lib.ListN.{length, drop, getD, length-append, length-drop, drop-of-length-le}
 use lib.Seq.{drop-cons, getD-drop}
 use Rattle.formats.specs.Reader.{Reader, done, ok, short, after, run, readAt, bind, map, one, any, next}
-use Rattle.formats.specs.Compose.{bind-ok, bind-short}
+use Rattle.formats.specs.Laid.{Room}
+use Rattle.formats.specs.Compose.{bind-ok}
+use Rattle.formats.specs.Told.{run-bind-failed}
+use Rattle.formats.specs.declared.Failure.the-variants.{Short}
 use Rattle.formats.specs.Writes.{Writes, writes-done, writes-one, writes-bind, writes-map, writes-as}
 
 unfoldable pub number : ℕ → Reader ℕ
@@ -46,7 +49,7 @@ number-short zero s h = absurd (omega arith)
 number-short (suc n) s h =
     by-cases
     (decLt (length s) n)
-    (λ q. bind-short (number n) _ s (number-short n s q))
+    (λ q. run-bind-failed (number n) _ s Short (number-short n s q))
     (λ q.
     bind-ok (number n) _ s (number-ok n s (omega arith))
     ∙ ap (λ t. after n (run (map (λ b. value n s * 256 + b) (one any)) t)) (drop-of-length-le s {i = n} (omega arith)))
@@ -69,6 +72,27 @@ module _ (s : List ℕ) (at : ℕ) where
   pub value-three : value 3 (drop at s) ≡ (getD s at 0 * 256 + getD s (at + 1) 0) * 256 + getD s (at + 2) 0
   unfolding value
   value-three = let z : at + 0 ≡ at = omega arith in rw (getD-drop, getD-drop, getD-drop, z) (omega arith)
+
+  -- a number read in one byte, and in two
+  pub at-one : at + 1 ≤ length s → readAt (number 1) s at ≡ ok (0 * 256 + getD s at 0) (at + 1)
+  unfolding value
+  at-one h = let e : at + 0 ≡ at = omega arith in rw (getD-drop at s 0 0, e) at (at-number 1 s at h)
+
+  pub at-two : at + 2 ≤ length s → readAt (number 2) s at ≡ ok (getD s at 0 * 256 + getD s (at + 1) 0) (at + 2)
+  at-two h = at-number 2 s at h ∙ ap (λ v. ok v (at + 2)) value-two
+
+-- its digits in one byte, and in two
+pub one-digit : (n : ℕ) → digits 1 n ≡ n % 256 ∷ []
+unfolding digits
+one-digit n = refl
+
+pub two-digits : (n : ℕ) → n < 65536 → digits 2 n ≡ n / 256 ∷ n % 256 ∷ []
+unfolding digits
+two-digits n h = let e : n / 256 % 256 ≡ n / 256 = omega arith in rw e
+
+-- room for its digits is room for as many bytes
+pub digits-room : {s : List ℕ} {at w k : ℕ} (n : ℕ) → w ≡ k → Room s at (digits w n) → at + k ≤ length s
+digits-room {w = w} n e r = omega (arith, e, r .enough, length-digits w n)
 
 pub writes-number : (n : ℕ) → Writes (number n) (digits n) (λ v. v < 256 ^ n)
 unfolding number digits

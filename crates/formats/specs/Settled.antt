@@ -1,15 +1,15 @@
 -- A reader's refusal, found from what the reader says of the beginnings: what follows of `Law`.
 use mathlib.Core.Path.{_≡_, refl, sym, ap, _∙_}
 use mathlib.Core.Logic.{by-cases}
-use mathlib.Core.List.{List, [], _∷_, _++_, append-nil, append-assoc}
-use Prim.Native.Nat.{ℕ, suc, _+_, _-_, _<_, _≤_}
+use mathlib.Core.List.{List, [], _++_, append-nil}
+use Prim.Native.Nat.{ℕ, suc, _+_, _-_, _<_}
 use native.Mathlib.Decide.{decLt}
 use native.Mathlib.Omega.{arith}
 use lib.ListN.{length, take, drop, take-append-drop}
 use lib.Seq.{take-take, length-take-le}
 use Rattle.formats.specs.Bytes.{bytes-nil, impossible}
 use Rattle.formats.specs.Reader.{Reader, Answer, ok, short, bad, run}
-use Rattle.formats.specs.Law.{Reads, Begun, begins, whole, refused}
+use Rattle.formats.specs.Law.{Begun, begins, whole, refused}
 
 module _ {A : Type 0} (r : Reader A) (s : List ℕ) where
   -- the first byte after which nothing that r takes can begin, where what stands before it is a proper beginning, is refused

@@ -13,15 +13,48 @@ use lib.Ieee.Fits.{and-r}
 use borrow.Author.Tests.{le-leb, lt-leb, eq-eqb, ne-eqb, eqb-true, eqb-false}
 use lib.ListN.{length, getD}
 use Rattle.formats.specs.Bytes.{impossible}
-use Rattle.formats.specs.Reader.{Reader, Answer, ok, short, bad, mapped, readAt, bind, map, each, times, literal}
-use Rattle.formats.specs.Compose.{at-done, at-short, at-pass, at-fail, at-map, at-within, at-bind-ok, at-bind-short, at-bind-bad}
+use Rattle.formats.specs.Reader.{Reader, Answer, ok, short, bad, mapped, andThen, run, readAt, bind, map, each, times, literal}
+use Rattle.formats.specs.Compose.{run-bind, at-done, at-short, at-pass, at-fail, at-bind, at-map, at-within, at-bind-ok}
+use Rattle.formats.specs.declared.Failure.{Failure}
+use Rattle.formats.specs.declared.Failure.the-variants.{Short, Bad}
 use Rattle.formats.specs.declared.Outcome.{Outcome}
-use Rattle.formats.specs.declared.Outcome.the-variants.{Done, Short, Bad}
+use Rattle.formats.specs.declared.Outcome.the-variants.{Done, Failed}
 
 unfoldable pub told : {A : Type 0} → Answer A → Outcome
 told (ok v n) = Done n
-told short = Short
-told (bad k p) = Bad k p
+told short = Failed Short
+told (bad k p) = Failed (Bad k p)
+
+-- the answer of a reader that fails
+abbrev pub failed : {A : Type 0} → Failure → Answer A
+failed Short = short
+failed (Bad k p) = bad k p
+
+-- ---- A failure is passed on whole
+
+pub failed-told : {A : Type 0} {x : Answer A} (f : Failure) → x ≡ failed f → told x ≡ Failed f
+unfolding told
+failed-told Short e = ap told e
+failed-told (Bad k p) e = ap told e
+
+module _ {A B : Type 0} where
+  pub mapped-failed : (g : A → B) (f : Failure) → mapped g (failed f) ≡ failed f
+  unfolding mapped
+  mapped-failed g Short = refl
+  mapped-failed g (Bad k p) = refl
+
+  pub then-failed : (f : Failure) (k : A → ℕ → Answer B) → andThen (failed f) k ≡ failed f
+  unfolding andThen
+  then-failed Short k = refl
+  then-failed (Bad j p) k = refl
+
+  pub run-bind-failed : (r : Reader A) (k : A → Reader B) (s : List ℕ) (f : Failure) → run r s ≡ failed f → run (bind r k) s ≡ failed f
+  run-bind-failed r k s f e = rw e at (run-bind k r s) ∙ then-failed f _
+
+  pub at-bind-failed : (r : Reader A) (k : A → Reader B) (s : List ℕ) (at : ℕ) (f : Failure) → readAt r s at ≡ failed f → readAt (bind r k) s at ≡ failed f
+  at-bind-failed r k s at f e = rw e at (at-bind k r s at) ∙ then-failed f _
+
+-- ---- What was told
 
 pub told-mapped : {A B : Type 0} (g : A → B) (x : Answer A) → told (mapped g x) ≡ told x
 unfolding told mapped
@@ -37,17 +70,11 @@ module _ {A : Type 0} where
   told-done short e = impossible (cc)
   told-done (bad k p) e = impossible (cc)
 
-  pub told-short : (x : Answer A) → Short ≡ told x → x ≡ short
+  pub told-failed : (x : Answer A) {f : Failure} → Failed f ≡ told x → x ≡ failed f
   unfolding told
-  told-short (ok v m) e = impossible (cc)
-  told-short short e = refl
-  told-short (bad k p) e = impossible (cc)
-
-  pub told-bad : (x : Answer A) {k p : ℕ} → Bad k p ≡ told x → x ≡ bad k p
-  unfolding told
-  told-bad (ok v m) e = impossible (cc)
-  told-bad short e = impossible (cc)
-  told-bad (bad k p) e = cc
+  told-failed (ok v m) e = impossible (cc)
+  told-failed short {f} e = ap failed {x = Short} {y = f} (cc)
+  told-failed (bad k p) {f} e = ap failed {x = Bad k p} {y = f} (cc)
 
 pub map-told : {A B : Type 0} (g : A → B) (r : Reader A) (s : List ℕ) (at : ℕ) → told (readAt (map g r) s at) ≡ told (readAt r s at)
 map-told g r s at = ap told (at-map g r s at) ∙ told-mapped g (readAt r s at)
@@ -57,13 +84,8 @@ module _ {A B : Type 0} (r : Reader A) (k : A → Reader B) (s : List ℕ) (at :
   pub bind-done : {v : A} {n : ℕ} → readAt r s at ≡ ok v n → told (readAt (bind r k) s at) ≡ told (readAt (k v) s n)
   bind-done e = ap told (at-bind-ok r k s at e)
 
-  pub bind-short : Short ≡ told (readAt r s at) → told (readAt (bind r k) s at) ≡ Short
-  unfolding told
-  bind-short e = ap told (at-bind-short r k s at (told-short (readAt r s at) e))
-
-  pub bind-bad : {j p : ℕ} → Bad j p ≡ told (readAt r s at) → told (readAt (bind r k) s at) ≡ Bad j p
-  unfolding told
-  bind-bad e = ap told (at-bind-bad r k s at (told-bad (readAt r s at) e))
+  pub bind-failed : {f : Failure} → Failed f ≡ told (readAt r s at) → told (readAt (bind r k) s at) ≡ Failed f
+  bind-failed {f} e = failed-told f (at-bind-failed r k s at f (told-failed (readAt r s at) e))
 
 -- the next of a list of parts
 module _ {I A : Type 0} (i : I) (l : List I) (f : I → Reader A) (s : List ℕ) (at : ℕ) where
@@ -71,19 +93,14 @@ module _ {I A : Type 0} (i : I) (l : List I) (f : I → Reader A) (s : List ℕ)
   unfolding each
   each-done {n} e = let x = told-done (readAt (f i) s at) e in bind-done (f i) _ s at (x .1) ∙ map-told (λ vs. x .0 ∷ vs) (each l f) s n
 
-  pub each-short : Short ≡ told (readAt (f i) s at) → told (readAt (each (i ∷ l) f) s at) ≡ Short
+  pub each-failed : {g : Failure} → Failed g ≡ told (readAt (f i) s at) → told (readAt (each (i ∷ l) f) s at) ≡ Failed g
   unfolding each
-  each-short e = bind-short (f i) _ s at e
-
-  pub each-bad : {k p : ℕ} → Bad k p ≡ told (readAt (f i) s at) → told (readAt (each (i ∷ l) f) s at) ≡ Bad k p
-  unfolding each
-  each-bad e = bind-bad (f i) _ s at e
+  each-failed e = bind-failed (f i) _ s at e
 
 -- a step from place to place, n times
 unfoldable pub thenTold : Outcome → (ℕ → Outcome) → Outcome
 thenTold (Done m) k = k m
-thenTold Short k = Short
-thenTold (Bad j p) k = Bad j p
+thenTold (Failed f) k = Failed f
 
 unfoldable pub repeated : (ℕ → Outcome) → ℕ → ℕ → Outcome
 repeated step zero at = Done at
@@ -98,13 +115,9 @@ module _ (step : ℕ → Outcome) (at i n : ℕ) where
   unfolding repeated thenTold
   repeated-done {m} h e = rw (count h, e)
 
-  pub repeated-short : i < n → step at ≡ Short → repeated step (n - i) at ≡ Short
+  pub repeated-failed : {f : Failure} → i < n → step at ≡ Failed f → repeated step (n - i) at ≡ Failed f
   unfolding repeated thenTold
-  repeated-short h e = rw (count h, e)
-
-  pub repeated-bad : {k p : ℕ} → i < n → step at ≡ Bad k p → repeated step (n - i) at ≡ Bad k p
-  unfolding repeated thenTold
-  repeated-bad h e = rw (count h, e)
+  repeated-failed h e = rw (count h, e)
 
   pub repeated-none : n ≤ i → repeated step (n - i) at ≡ Done at
   unfolding repeated
@@ -122,8 +135,7 @@ module _ {A : Type 0} (r : Reader A) (s : List ℕ) (step : ℕ → Outcome) (on
   times-by n at (Done m) h e rest =
       let x = told-done (readAt r s at) (sym e) in
       bind-done r _ s at (x .1) ∙ map-told (λ vs. x .0 ∷ vs) (times n r) s m ∙ rest m (done-within r s at h (sym e) .1)
-  times-by n at Short h e rest = bind-short r _ s at (sym e)
-  times-by n at (Bad k p) h e rest = bind-bad r _ s at (sym e)
+  times-by n at (Failed f) h e rest = bind-failed r _ s at (sym e)
 
   pub times-repeated : (n at : ℕ) → at ≤ length s → told (readAt (times n r) s at) ≡ repeated step n at
   unfolding told times repeated
@@ -133,14 +145,14 @@ module _ {A : Type 0} (r : Reader A) (s : List ℕ) (step : ℕ → Outcome) (on
 -- certain bytes from a place on, one by one
 unfoldable pub matched : List ℕ → ℕ → List ℕ → ℕ → Outcome
 matched s at [] k = Done at
-matched s at (b ∷ l) k = cond (leb (length s) at) Short (cond (eqb (getD s at 0) b) (matched s (at + 1) l k) (Bad k at))
+matched s at (b ∷ l) k = cond (leb (length s) at) (Failed Short) (cond (eqb (getD s at 0) b) (matched s (at + 1) l k) (Failed (Bad k at)))
 
 module _ (s : List ℕ) (at b : ℕ) (l : List ℕ) (k : ℕ) where
-  pub matched-short : length s ≤ at → matched s at (b ∷ l) k ≡ Short
+  pub matched-short : length s ≤ at → matched s at (b ∷ l) k ≡ Failed Short
   unfolding matched
   matched-short h = rw (le-leb (length s) at h)
 
-  pub matched-bad : at < length s → (getD s at 0 ≡ b → ⊥) → matched s at (b ∷ l) k ≡ Bad k at
+  pub matched-bad : at < length s → (getD s at 0 ≡ b → ⊥) → matched s at (b ∷ l) k ≡ Failed (Bad k at)
   unfolding matched
   matched-bad h e = rw (lt-leb (length s) at h, ne-eqb (getD s at 0) b e)
 

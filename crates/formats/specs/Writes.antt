@@ -14,7 +14,9 @@ use borrow.Author.Tests.{eq-eqb, eqb-true}
 use Rattle.formats.specs.Bytes.{Bytes, bytes-nil, bytes-cons, bytes-append, bytes-take, bytes-drop, impossible}
 use Rattle.formats.specs.Reader.{Test, Reader, done, Answer, ok, short, bad, next, after, run, readAt, bind, map, each, times, one, any, free, literal, is}
 use Rattle.formats.specs.Law.{Reads, run-pass, reads-append, reads-take}
-use Rattle.formats.specs.Compose.{bind-ok, bind-short, bind-bad}
+use Rattle.formats.specs.Compose.{bind-ok}
+use Rattle.formats.specs.Told.{run-bind-failed}
+use Rattle.formats.specs.declared.Failure.the-variants.{Short, Bad}
 
 empty : {A : Type 0} (s : List A) → length s ≡ 0 → s ≡ []
 empty s h = sym (take-all 0 s (omega arith))
@@ -54,8 +56,8 @@ module _ {A B : Type 0} (r : Reader A) (k : A → Reader B) where
   split-first : (b : List ℕ) {w : B} (x : Answer A) → run r b ≡ x → Reads (bind r k) b w → Split b w
   unfolding readAt
   split-first b (ok v n) e g = split-second b (run (k v) (drop n b)) e refl (sym (bind-ok r k b e) ∙ g)
-  split-first b short e g = impossible (cc (bind-short r k b e))
-  split-first b (bad j p) e g = impossible (cc (bind-bad r k b e))
+  split-first b short e g = impossible (cc (run-bind-failed r k b Short e))
+  split-first b (bad j p) e g = impossible (cc (run-bind-failed r k b (Bad j p) e))
 
   pub reads-split : (b : List ℕ) {w : B} → Reads (bind r k) b w → Split b w
   reads-split b g = split-first b (run r b) refl g

@@ -1,16 +1,23 @@
 // What a byte format is. Its theory is in specs/; the code of a format tells how reading it ended.
 ghost use mathlib.Core.Path.{_≡_};
+ghost use lib.Dec.{leb};
 ghost use Prim.Native.Nat.{_+_, _*_, _/_, _%_};
 ghost use Rattle.formats.specs.Lent.{writing};
 ghost use Rattle.formats.specs.Laid.{putWithin};
 
-pub enum Outcome {
-    // All is well: the place after what was read.
-    Done(usize),
+// How reading fails.
+pub enum Failure {
     // The bytes ran out.
     Short,
     // A byte was refused: the refusal's number, and the byte's place.
     Bad(u8, usize),
+}
+
+// How reading ended.
+pub enum Outcome {
+    // All is well: the place after what was read.
+    Done(usize),
+    Failed(Failure),
 }
 
 // The number of two bytes, the high one first.
@@ -32,6 +39,16 @@ pub fn low(number: u32) -> u8
     ensures { λ r. ⌜ r ≡ number % 256 ⌝ }
 {
     (number % 256) as u8
+}
+
+// Whether `count` parts of some size have no more than `room` bytes, without a product that could be too large.
+pub fn is_within(count: usize, size: usize, room: usize) -> bool
+    ensures { λ r. ⌜ r ≡ leb (count * size) room ⌝ }
+{
+    if size == 0 {
+        return true;
+    }
+    count <= room / size
 }
 
 // Bytes are put from a place of the output on, as many of them as there is room for. Where the next would go is answered.

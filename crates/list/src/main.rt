@@ -1,8 +1,9 @@
 // The listing program: what stands in a file of joined records, told in lines of text.
 use channels::Format;
 use channels::Place;
-use records::Fault;
-use records::Taken;
+use points::Taken;
+use refusals::Refusal;
+use refusals::Where;
 use walks::Found;
 ghost use Prim.Native.Nat.{_≤_};
 ghost use lib.ListN.{length};
@@ -30,30 +31,34 @@ fn put_index(text: &mut [u8; 65536], used: u16, index: u32) -> u16 {
 }
 
 // The points of the record that stands at a place. Points that have no bytes have no lines, however many they are.
-// Eight bytes of identifier and version stand before the description, and between it and the points five: two single bytes and the count.
-// The channels are gone through here, since a function of their own would be handed a copy of the description for each point.
-fn put_points(text: &mut [u8; 65536], start: u16, file: &[u8], place: usize, count: u32) -> u16
-    requires { ⌜ place ≤ 65536 ⌝ }
-{
-    let described = descriptions::read(file, place + 8, Format::Full);
-    let description = described.description;
-    if records::point_width(description) == 0 {
+// The channels are gone through here, since a function of their own would be handed a copy of the flags for each point.
+fn put_points(text: &mut [u8; 65536], start: u16, file: &[u8], place: usize) -> u16 {
+    let front = records::front_at(file, place);
+    let included = front.included;
+    let stored = front.stored;
+    if points::width(Format::Full, stored) == 0 {
         return start;
     }
     let mut used = start;
-    let mut at = place + 13 + descriptions::size(description, Format::Full);
+    let mut at = front.points;
     let mut index: u32 = 0;
-    while index < count {
+    while index < front.count {
         used = put_index(text, used, index);
         let mut channel: usize = 0;
         while channel < 16 {
-            let d = description.channels[channel];
-            match records::place_at(file, at, channel, d) {
+            match points::place_at(
+                file,
+                at,
+                Format::Full,
+                channel,
+                included[channel],
+                stored[channel],
+            ) {
                 Taken::Took { place: held, next } => {
                     used = put_place(text, used, held);
                     at = next;
                 }
-                Taken::Missing => return used,
+                Taken::Failed(_) => return used,
             }
             channel += 1;
         }
@@ -78,11 +83,20 @@ fn put_last(text: &mut [u8; 65536], used: u16, word: &[u8], place: usize) -> u16
     texts::put(text, used, b'\n')
 }
 
-fn put_refused(text: &mut [u8; 65536], used: u16, fault: Fault, place: usize) -> u16 {
+fn put_refused(text: &mut [u8; 65536], used: u16, number: u8, place: usize) -> u16 {
     let used = texts::put_bytes(text, used, b"refused");
-    let used = texts::put_field(text, used, records::fault_number(fault) as u64);
+    let used = texts::put_field(text, used, number as u64);
     let used = texts::put_field(text, used, place as u64);
     texts::put(text, used, b'\n')
+}
+
+// The last line, where a walk ends in a refusal. Of a walk's refusals 1 alone names no place.
+fn put_refusal(text: &mut [u8; 65536], used: u16, refusal: Refusal, start: usize) -> u16 {
+    let place = refusals::place(refusal);
+    match place {
+        Where::At(byte) => put_refused(text, used, refusals::number(refusal), byte),
+        Where::Nowhere => put_last(text, used, b"short", start),
+    }
 }
 
 // A line for each record and each of its points, and the last line.
@@ -101,11 +115,10 @@ fn put_file(text: &mut [u8; 65536], file: &[u8]) -> u16
                 extended: _,
             } => {
                 used = put_record(text, used, place, length, count);
-                used = put_points(text, used, file, place, count);
+                used = put_points(text, used, file, place);
             }
             Found::End => return put_last(text, used, b"end", place),
-            Found::Short => return put_last(text, used, b"short", place),
-            Found::Refused { fault, place: at } => return put_refused(text, used, fault, at),
+            Found::Refused(refusal) => return put_refusal(text, used, refusal, place),
         }
         place = step.next;
     }

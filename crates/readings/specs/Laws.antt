@@ -10,7 +10,7 @@ use lib.Pow.{pow-pos}
 use lib.Signed.{leZ, _≤ℤ_}
 use borrow.Author.Tests.{lt-leb}
 use Rattle.readings.specs.Thousandths.{outside, halfUp, nearest, numerator, denominator, thousandths, defined, reading, readingBy, exponentOf, fractionOf}
-use Rattle.readings.specs.Nearest.{Nearest, nearest-is, nearest-only, nearest-opposite, times-opposite}
+use Rattle.readings.specs.NearestLaws.{Nearest, nearest-is, nearest-only, nearest-opposite, times-opposite}
 
 -- ---- The number
 

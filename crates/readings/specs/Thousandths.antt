@@ -4,10 +4,13 @@ use Prim.Native.Nat.{ℕ, suc, _+_, _*_, _/_, _%_, _^_}
 use lib.IntN.{ℤ, pos, negsuc, negℤ, _*ℤ_}
 use lib.Signed.{leZ}
 use lib.Dec.{leb}
+use Rattle.refusals.specs.declared.Quantity.the-variants as quantity
+use Rattle.refusals.specs.declared.Refusal.{Refusal}
+use Rattle.refusals.specs.declared.Refusal.the-variants.{OutOfRange}
 use Rattle.channels.specs.declared.Attribute.{Attribute}
 use Rattle.channels.specs.declared.Place as place
 use Rattle.readings.specs.declared.Reading.{Reading}
-use Rattle.readings.specs.declared.Reading.the-variants.{Thousandths, OutOfRange}
+use Rattle.readings.specs.declared.Reading.the-variants.{Thousandths, Refused}
 use Rattle.readings.specs.declared.PlaceReading as placed
 
 -- ---- The number
@@ -36,16 +39,16 @@ thousandths raw e f = nearest (numerator raw) (denominator e f)
 unfoldable pub defined : ℤ → ℕ → ℕ → Bool
 defined raw e f = leZ (negsuc 32767) raw && (leZ raw (pos 65535) && (leb e 31 && leb f 2047))
 
--- ---- The answer, as document 01 numbers it
+-- ---- The answer
 
 pub data Answer : Type 0 where
   value : ℤ → Answer
   absent : Answer
-  refused : ℕ → Answer
+  refused : Refusal → Answer
 
--- a number outside its range
+-- a number outside its range, refusal 12
 abbrev pub outside : Answer
-outside = refused 12
+outside = refused (OutOfRange quantity.Reading)
 
 -- to_thousandths
 unfoldable pub reading : ℤ → ℕ → ℕ → Answer
@@ -79,7 +82,7 @@ placeReading (place.the-variants.Number raw) scaling = scaledReading raw scaling
 
 abbrev pub told : Reading → Answer
 told (Thousandths z) = value z
-told OutOfRange = outside
+told (Refused refusal) = refused refusal
 
 abbrev pub toldPlace : placed.PlaceReading → Answer
 toldPlace placed.the-variants.Absent = absent

@@ -6,12 +6,18 @@ ghost use lib.Signed.{_<ℤ_};
 ghost use Rattle.readings.specs.Thousandths.{nearest, exponentOf, fractionOf, denominator, told, toldPlace, reading, scaledReading, placeReading};
 use channels::Attribute;
 use channels::Place;
+use refusals::Quantity;
+use refusals::Refusal;
 
-// A whole number of thousandths, or a raw number, E or F outside its range.
+// A whole number of thousandths; or refusal 12, for a raw number, E or F outside its range.
 pub enum Reading {
     Thousandths(i64),
-    OutOfRange,
+    Refused(Refusal),
 }
+
+const OUTSIDE: Reading = Reading::Refused(Refusal::OutOfRange {
+    quantity: Quantity::Reading,
+});
 
 // What a place of a point reads as.
 pub enum PlaceReading {
@@ -52,16 +58,16 @@ pub fn to_thousandths(raw: i64, e: u64, f: u64) -> Reading
     ensures { λ r. ⌜ told r ≡ reading raw e f ⌝ }
 {
     if raw < -32768 {
-        return Reading::OutOfRange;
+        return OUTSIDE;
     }
     if 65535 < raw {
-        return Reading::OutOfRange;
+        return OUTSIDE;
     }
     if 31 < e {
-        return Reading::OutOfRange;
+        return OUTSIDE;
     }
     if 2047 < f {
-        return Reading::OutOfRange;
+        return OUTSIDE;
     }
     let denominator = denominator_of(e, f) as i64;
     let thousandfold = 1000 * raw;
@@ -85,7 +91,7 @@ fn scaled_reading(raw: i64, scaling: Attribute) -> Reading
     if scaling.given {
         let number = scaling.number;
         if number < 0 {
-            return Reading::OutOfRange;
+            return OUTSIDE;
         }
         let scale = scale_of(number as u64);
         return to_thousandths(raw, scale.exponent, scale.fraction);

@@ -1,10 +1,5 @@
 pub mod Opening
 pub mod Fronts
-pub mod Samples
-pub mod Walk
 pub mod Extension
-pub mod Marking
-pub mod Seats
 pub mod Verdicts
 pub mod Whole
-pub mod Laying

@@ -1,77 +1,144 @@
 -- What is answered, by where the parts of a record lie.
-use mathlib.Core.Path.{_≡_, refl, sym, ap, _∙_}
+use mathlib.Core.Path.{_≡_, refl, sym, ap, ap₂, _∙_}
 use mathlib.Core.Bool.{Bool, true, false}
 use mathlib.Core.List.{List, []}
-use mathlib.Core.List as list
-use Prim.Native.Nat.{ℕ, _+_, _-_, _*_, _≤_, _<_}
-use native.Mathlib.Nat.{mul-le-mul-right}
+use Prim.Native.Nat.{ℕ, _+_, _-_, _*_, _/_, _≤_, _<_}
+use native.Mathlib.Nat.{mul-comm, mul-le-mul-right, mul-div-cancel}
 use native.Mathlib.Omega.{arith}
 use lib.ListN.{length, replicate}
 use borrow.Author.Tests.{lt-ltb, le-ltb}
 use Rattle.formats.specs.Bytes.{impossible}
-use Rattle.formats.specs.Reader.{Answer, ok, short, bad, run, readAt, each}
-use Rattle.formats.specs.Compose.{at-done}
-use Rattle.formats.specs.Told.{told}
-use Rattle.formats.specs.declared.Outcome.the-variants.{Done, Short, Bad}
-use Rattle.channels.specs.declared.Description.{Description}
-use Rattle.descriptions.specs.Description.{description, isStored}
-use Rattle.descriptions.specs.Read.{nothing, described, measured}
-use Rattle.descriptions.specs.declared.Measured.{Measured}
-use Rattle.records.specs.Front.{marks}
-use Rattle.records.specs.Record.{Record, stored, storedFrom, point, fullRecord, width}
-use Rattle.records.specs.Places.{places, placesOf}
-use Rattle.records.specs.Points.{placesAt, nowhere}
+use Rattle.formats.specs.Reader.{Answer, ok, short, bad, run, readAt, bind, literal, each}
+use Rattle.formats.specs.Compose.{at-start, at-done, at-within, at-short}
 use Rattle.formats.specs.Fixed.{fixed-times}
-use Rattle.records.specs.Nth.{fixed-point, nth-point}
-use Rattle.records.specs.Layout.{layoutOf}
-use Rattle.records.specs.Described.{record-described}
-use Rattle.records.specs.Found.{LaidOut, record-laid, short-laid, bad-laid}
-use Rattle.records.specs.Verdict.{faultOf, judged, unjudged, extendedPlace, extendedSize, restPlace, restSize, pointedAt, placesIn}
+use Rattle.formats.specs.Told.{told, failed, at-bind-failed}
+use Rattle.formats.specs.declared.Failure.{Failure}
+use Rattle.formats.specs.declared.Failure.the-variants.{Short, Bad}
+use Rattle.formats.specs.declared.Outcome.{Outcome}
+use Rattle.formats.specs.declared.Outcome.the-variants.{Done, Failed}
+use Rattle.refusals.specs.Table.{refusalOf}
+use Rattle.refusals.specs.declared.Refusal.{Refusal}
+use Rattle.refusals.specs.declared.Refusal.the-variants.{NoPoint}
+use Rattle.channels.specs.declared.Description.{Description}
+use Rattle.descriptions.specs.Description.{description}
+use Rattle.descriptions.specs.Read.{nothing, described}
+use Rattle.points.specs.Points.{storedFrom, channels, point, width}
+use Rattle.points.specs.Places as places
+use Rattle.points.specs.Places.{placesOf, nowhere}
+use Rattle.points.specs.Laws.{fixed-point, nth-point}
+use Rattle.records.specs.Record.{Record, included, stored, fullRecord}
+use Rattle.records.specs.Front.{identification, front, body, in-two}
+use Rattle.records.proofs.Fronts.{front-failed}
+use Rattle.records.specs.Layout.{frontIn, layoutAt}
+use Rattle.records.specs.DescribedLaws.{record-described}
+use Rattle.records.specs.LayoutLaws.{Lying, record-lies, failed-lies, failed-count}
+use Rattle.records.specs.Verdict.{verdictFrom, descriptionIn, judged, unjudged, extendedPlace, extendedSize, restPlace, restSize, pointedAt, placesIn}
+use Rattle.records.specs.declared.Front.{Front}
 use Rattle.records.specs.declared.Layout.{Layout}
-use Rattle.records.specs.declared.Fault.{Fault}
 use Rattle.records.specs.declared.Judged.{Judged}
 use Rattle.records.specs.declared.Verdict.{Verdict}
 use Rattle.records.specs.declared.Verdict.the-variants as verdict
 use Rattle.records.specs.declared.Pointed.the-variants as pointed
 
--- a point is read by the flags of some description, from a place on
+-- ---- A failure, as each answers it
+
+verdict-of-failed : (start : ℕ) (f : Failure) → verdict.Refused (refusalOf f) ≡ verdictFrom start (failed f)
+unfolding verdictFrom
+verdict-of-failed start Short = refl
+verdict-of-failed start (Bad k p) = refl
+
+nothing-failed : (f : Failure) → nothing ≡ descriptionIn (failed f)
+unfolding descriptionIn
+nothing-failed Short = refl
+nothing-failed (Bad k p) = refl
+
+pointed-of-failed : (index : ℕ) (f : Failure) → pointed.Refused (refusalOf f) ≡ pointedAt index (failed f)
+unfolding pointedAt
+pointed-of-failed index Short = refl
+pointed-of-failed index (Bad k p) = refl
+
+places-of-failed : (index : ℕ) (f : Failure) → nowhere ≡ placesIn index (failed f)
+unfolding placesIn
+places-of-failed index Short = refl
+places-of-failed index (Bad k p) = refl
+
+-- the parts of no record are the empty ones at the start
+pub nowhere-lies : (size : ℕ) (f : Failure)
+    → (extendedPlace (failed f) ≡ 0) × (extendedSize (failed f) ≡ 0) × (restPlace (failed f) ≡ 0) × (restSize size (failed f) ≡ 0)
+unfolding extendedPlace extendedSize restPlace restSize
+nowhere-lies size Short = (refl, refl, refl, refl)
+nowhere-lies size (Bad k p) = (refl, refl, refl, refl)
+
+-- ---- From a place on
+
+pub record-past : (s : List ℕ) (start : ℕ) → length s ≤ start → readAt fullRecord s start ≡ short
+unfolding fullRecord literal bind
+record-past s start h = at-short _ _ s start h
+
+module _ (s : List ℕ) (start : ℕ) (inside : start ≤ length s) (l : Layout) (e : l ≡ layoutAt s start) where
+  pub record-from : {end : ℕ} → l .outcome ≡ Done end → start ≤ end
+  record-from o = at-within fullRecord s start (record-lies s start inside l e o .1) inside .0
+
+  pub verdict-record : {end : ℕ} → l .outcome ≡ Done end
+      → verdict.Record (end - start) (l .count) (l .announced) ≡ verdictFrom start (readAt fullRecord s start)
+  unfolding verdictFrom
+  verdict-record {end} o =
+      let x = record-lies s start inside l e o in
+      (λ i. verdict.Record (end - start) (sym (x .2 .count) i) (sym (x .2 .extension .presence) i)) ∙ sym (ap (verdictFrom start) (x .1))
+
+  pub verdict-failed : {f : Failure} → l .outcome ≡ Failed f → verdict.Refused (refusalOf f) ≡ verdictFrom start (readAt fullRecord s start)
+  verdict-failed {f} o = verdict-of-failed start f ∙ sym (ap (verdictFrom start) (failed-lies s start inside l e o))
+
+-- ---- From the start
+
+-- a point is read by some flags, from a place on
 abbrev pub Shown : List ℕ → ℕ → List Bool → List Bool → ℕ → Type 0
 Shown s index included stored start =
-    (d : Description) × (included ≡ list.map (λ c. c .included) (d .channels)) × (stored ≡ list.map isStored (d .channels)) × (placesAt d (readAt (point d) s start) ≡ placesIn index (run fullRecord s))
+    places.placesIn included stored (readAt (point 2 stored) s start) ≡ placesIn index (run fullRecord s)
 
--- no point is read as one of a description that says nothing
-pub shown-nowhere : (s : List ℕ) (index : ℕ) → nowhere ≡ placesIn index (run fullRecord s) → Shown s index (replicate 16 false) (replicate 16 false) 0
-unfolding nothing placesAt point stored storedFrom each places placesOf
-shown-nowhere s index e = (nothing, refl, refl, ap (placesAt nothing) (at-done [] s 0) ∙ e)
+-- no point is read as one of no channel
+shown-nowhere : (s : List ℕ) (index : ℕ) → nowhere ≡ placesIn index (run fullRecord s) → Shown s index (replicate 16 false) (replicate 16 false) 0
+unfolding places.placesIn point channels storedFrom each placesOf
+shown-nowhere s index e = ap (places.placesIn (replicate 16 false) (replicate 16 false)) (at-done [] s 0) ∙ e
 
-module _ (s : List ℕ) (l : Layout) (e : l ≡ layoutOf s) where
+module _ (s : List ℕ) (l : Layout) (e : l ≡ layoutAt s 0) where
+  inside : 0 ≤ length s
+  inside = omega arith
+
+  abbrev heading : Front
+  heading = frontIn (readAt front s 0)
+
+  -- ---- No record
+
+  pub failed-read : {f : Failure} → l .outcome ≡ Failed f → run fullRecord s ≡ failed f
+  failed-read o = sym (at-start fullRecord s) ∙ failed-lies s 0 inside l e o
+
+  pub pointed-failed : (index : ℕ) {f : Failure} → l .outcome ≡ Failed f → pointed.Refused (refusalOf f) ≡ pointedAt index (run fullRecord s)
+  pointed-failed index {f} o = pointed-of-failed index f ∙ sym (ap (pointedAt index) (failed-read o))
+
   -- ---- A record
 
   module _ {end : ℕ} (o : l .outcome ≡ Done end) where
     abbrev whole : Record
-    whole = record-laid s l e o .0
+    whole = record-lies s 0 inside l e o .0
 
     read : run fullRecord s ≡ ok whole end
-    read = record-laid s l e o .1
+    read = sym (at-start fullRecord s) ∙ record-lies s 0 inside l e o .1
 
-    laid : LaidOut s l whole end
-    laid = record-laid s l e o .2
-
-    pub verdict-record : verdict.Record end (l .count) (l .announced) ≡ judged (run fullRecord s) .verdict
-    unfolding judged
-    verdict-record =
-        (λ i. verdict.Record end (sym (laid .count) i) (sym (laid .extension .presence) i)) ∙ sym (ap (λ x. judged x .verdict) read)
+    lying : Lying s heading l whole end
+    lying = record-lies s 0 inside l e o .2
 
     pub ends-within : (l .extension ≤ end) × (end ≤ length s)
-    ends-within = laid .extended-within
+    ends-within = lying .extended-within
 
-    pub extended-lies : l .announced ≡ true → (extendedPlace (run fullRecord s) ≡ l .extension + 2) × (extendedSize (run fullRecord s) ≡ end - (l .extension + 2)) × (l .extension + 2 ≤ end)
+    pub extended-lies : l .announced ≡ true
+        → (extendedPlace (run fullRecord s) ≡ l .extension + 2) × (extendedSize (run fullRecord s) ≡ end - (l .extension + 2)) × (l .extension + 2 ≤ end)
     unfolding extendedPlace extendedSize
-    extended-lies t = let h = laid .extension .start t in rw read (omega arith, omega arith, omega arith)
+    extended-lies t = let h = lying .extension .start t in rw read (omega arith, omega arith, omega arith)
 
     pub extended-empty : l .announced ≡ false → (extendedPlace (run fullRecord s) ≡ end) × (extendedSize (run fullRecord s) ≡ 0)
     unfolding extendedPlace extendedSize
-    extended-empty t = let h = ap length (laid .extension .empty t .1) in rw read (omega arith, omega arith)
+    extended-empty t = let h = ap length (lying .extension .empty t .1) in rw read (omega arith, omega arith)
 
     pub rest-lies : (restPlace (run fullRecord s) ≡ end) × (restSize (length s) (run fullRecord s) ≡ length s - end)
     unfolding restPlace restSize
@@ -79,94 +146,101 @@ module _ (s : List ℕ) (l : Layout) (e : l ≡ layoutOf s) where
 
     pub pointed-there : (index : ℕ) → index < l .count → pointed.Point ≡ pointedAt index (run fullRecord s)
     unfolding pointedAt
-    pointed-there index h = rw (read, lt-ltb index (length (whole .points)) (omega (arith, laid .count)))
+    pointed-there index h = rw (read, lt-ltb index (length (whole .points)) (omega (arith, lying .count)))
 
-    pub pointed-none : (index : ℕ) → l .count ≤ index → pointed.NoPoint ≡ pointedAt index (run fullRecord s)
+    pub pointed-none : (index : ℕ) → l .count ≤ index → pointed.Refused NoPoint ≡ pointedAt index (run fullRecord s)
     unfolding pointedAt
-    pointed-none index h = rw (read, le-ltb index (length (whole .points)) (omega (arith, laid .count)))
+    pointed-none index h = rw (read, le-ltb index (length (whole .points)) (omega (arith, lying .count)))
 
-    pub shown-none : (index : ℕ) → l .count ≤ index → Shown s index (replicate 16 false) (replicate 16 false) 0
+    places-none : (index : ℕ) → l .count ≤ index → nowhere ≡ placesIn index (run fullRecord s)
     unfolding placesIn
-    shown-none index h = shown-nowhere s index (rw (read, le-ltb index (length (whole .points)) (omega (arith, laid .count))))
+    places-none index h = rw (read, le-ltb index (length (whole .points)) (omega (arith, lying .count)))
 
     module _ (index : ℕ) (h : index < l .count) where
-      places-by : placesAt (whole .description) (readAt (point (whole .description)) s (l .points + index * width (whole .description))) ≡ placesIn index (run fullRecord s)
-      unfolding placesIn placesAt
-      places-by =
-          ap (placesAt (whole .description)) (nth-point (whole .description) s (l .count) (l .points) (whole .points) (l .extension) (laid .within) (laid .points) index h)
-          ∙ sym (rw (read, lt-ltb index (length (whole .points)) (omega (arith, laid .count))) refl)
+      abbrev d : Description
+      d = whole .description
 
-      -- read by the flags that were measured, at the place of the layout
-      pub shown-there : (m : Measured) {at : ℕ} → told (run marks s) ≡ Done at → m ≡ measured (readAt (description 2) s at)
-          → Shown s index (m .included) (m .stored) (l .points + index * l .width)
-      unfolding measured
-      shown-there m place q =
-          let d = whole .description in
-          let x = q ∙ ap measured (record-described s place read .1) in
-          (d, ap (λ z. z .included) x, ap (λ z. z .stored) x, ap (λ w. placesAt d (readAt (point d) s (l .points + index * w))) (laid .wide) ∙ places-by)
+      by-flags : places.placesIn (included d) (stored d) (readAt (point 2 (stored d)) s (heading .points + index * width 2 (stored d))) ≡ placesIn index (run fullRecord s)
+      unfolding placesIn places.placesIn
+      by-flags =
+          ap (places.placesIn (included d) (stored d)) (nth-point 2 (stored d) s (l .count) (heading .points) (whole .points) (l .extension) (lying .within) (lying .points) index h)
+          ∙ sym (rw (read, lt-ltb index (length (whole .points)) (omega (arith, lying .count))) refl)
 
-      -- the point lies in the bytes
-      pub point-within : l .points + index * l .width ≤ length s
-      point-within =
-          let d = whole .description in
-          let z = fixed-times (point d) (width d) (fixed-point d) (l .count) s (l .points) (whole .points) (l .extension) (laid .within) (laid .points) in
-          rw (laid .wide) (omega (arith, z, mul-le-mul-right {m = index} {n = l .count} (width d) (omega arith), laid .extended-within))
+      -- it is read by the flags of the front, and lies in the bytes
+      there : Shown s index (heading .included) (heading .stored) (heading .points + index * width 2 (heading .stored))
+      there = ap₂ (λ a b. places.placesIn a b (readAt (point 2 b) s (heading .points + index * width 2 b))) (lying .includes) (lying .stores) ∙ by-flags
 
-  -- ---- No record
+      -- all have one width, which is their share of the bytes
+      shared : (heading .points ≤ l .extension) × (l .extension - heading .points ≡ l .count * width 2 (heading .stored))
+      shared =
+          let z = fixed-times (point 2 (stored d)) (width 2 (stored d)) (fixed-point 2 (stored d)) (l .count) s (heading .points) (whole .points) (l .extension) (lying .within) (lying .points) in
+          rw (lying .stores) (omega (arith, z), omega (arith, z))
 
-  module _ (o : l .outcome ≡ Short) where
-    pub short-read : run fullRecord s ≡ short
-    short-read = short-laid s l e o .0
+      lies : heading .points + index * width 2 (heading .stored) ≤ length s
+      lies =
+          omega (arith, shared .0, shared .1, mul-le-mul-right {m = index} {n = l .count} (width 2 (heading .stored)) (omega arith), lying .extended-within)
 
-    pub shown-short : (index : ℕ) → Shown s index (replicate 16 false) (replicate 16 false) 0
-    unfolding placesIn
-    shown-short index = shown-nowhere s index (sym (ap (placesIn index) short-read))
+  -- ---- A point, whether there is a record or not: one without a record has no points
 
-    pub verdict-short : verdict.Short ≡ judged (run fullRecord s) .verdict
-    unfolding judged
-    verdict-short = sym (ap (λ x. judged x .verdict) short-read)
+  module _ (index : ℕ) where
+    by-outcome : {A : Type 0} → ((end : ℕ) → l .outcome ≡ Done end → A) → ((f : Failure) → l .outcome ≡ Failed f → A) → A
+    by-outcome {A} ended failing = go (l .outcome) refl
+      where
+        go : (o : Outcome) → l .outcome ≡ o → A
+        go (Done end) q = ended end q
+        go (Failed f) q = failing f q
 
-  module _ {k p : ℕ} (o : l .outcome ≡ Bad k p) where
-    pub bad-read : run fullRecord s ≡ bad k p
-    bad-read = bad-laid s l e o .0
+    there-is : {A : Type 0} → index < l .count → ((end : ℕ) → l .outcome ≡ Done end → A) → A
+    there-is h ended = by-outcome ended (λ f o. absurd (omega (arith, failed-count s 0 inside l e o)))
 
-    pub shown-bad : (index : ℕ) → Shown s index (replicate 16 false) (replicate 16 false) 0
-    unfolding placesIn
-    shown-bad index = shown-nowhere s index (sym (ap (placesIn index) bad-read))
+    -- a point's share of the bytes is its width
+    share : (h : index < l .count) → (l .extension - heading .points) / l .count ≡ width 2 (heading .stored)
+    share h =
+        let z : l .extension - heading .points ≡ width 2 (heading .stored) * l .count = there-is h (λ end o. shared o index h .1) ∙ mul-comm (l .count) (width 2 (heading .stored)) in
+        ap (λ n. n / l .count) z ∙ mul-div-cancel (width 2 (heading .stored)) (omega arith)
 
-    pub verdict-bad : verdict.Refused (faultOf k) p ≡ judged (run fullRecord s) .verdict
-    unfolding judged
-    verdict-bad = sym (ap (λ x. judged x .verdict) bad-read)
+    module _ {f : Front} (q : f ≡ heading) (h : index < l .count) where
+      pub points-start : f .points ≤ l .extension
+      points-start = rw q (there-is h (λ end o. shared o index h .0))
+
+      pub point-within : f .points + index * ((l .extension - f .points) / l .count) ≤ length s
+      point-within = rw (q, share h) (there-is h (λ end o. lies o index h))
+
+      pub shown-there : Shown s index (f .included) (f .stored) (f .points + index * ((l .extension - f .points) / l .count))
+      shown-there = rw (q, share h) (there-is h (λ end o. there o index h))
+
+    pub shown-none : l .count ≤ index → Shown s index (replicate 16 false) (replicate 16 false) 0
+    shown-none h =
+        shown-nowhere s index
+        (by-outcome (λ end o. places-none o index h) (λ f o. places-of-failed index f ∙ sym (ap (placesIn index) (failed-read o))))
 
 -- ---- With the description
 
 module _ (s : List ℕ) where
-  module _ {at : ℕ} (place : told (run marks s) ≡ Done at) where
-    judged-by : {n k : ℕ} {t : Bool} (x : Answer Record) → run fullRecord s ≡ x → verdict.Record n k t ≡ judged x .verdict
-        → described (readAt (description 2) s at) .description ≡ judged x .description
-    unfolding judged described
-    judged-by (ok r n) q e = ap (λ y. described y .description) (record-described s place q .1)
-    judged-by short q e = impossible (cc)
-    judged-by (bad k p) q e = impossible (cc)
+  -- a record's is what is read behind the identifier and the version
+  record-by : {at n k : ℕ} {t : Bool} → told (readAt identification s 0) ≡ Done at → (x : Answer Record) → readAt fullRecord s 0 ≡ x
+      → verdict.Record n k t ≡ verdictFrom 0 x → described (readAt (description 2) s at) .description ≡ descriptionIn x
+  unfolding verdictFrom descriptionIn described
+  record-by place (ok r n) q e = ap (λ y. described y .description) (record-described s 0 place q .1)
+  record-by place short q e = impossible (cc)
+  record-by place (bad k p) q e = impossible (cc)
 
-    pub judged-record : (v : Verdict) {n k : ℕ} {t : Bool} → v ≡ judged (run fullRecord s) .verdict → v ≡ verdict.Record n k t
-        → _≡_ {A = Judged} (record { verdict = v; description = described (readAt (description 2) s at) .description }) (judged (run fullRecord s))
-    judged-record v e q = λ i. record { verdict = e i; description = judged-by (run fullRecord s) refl (sym q ∙ e) i }
+  pub judged-record : {at : ℕ} → told (readAt identification s 0) ≡ Done at → (v : Verdict) {n k : ℕ} {t : Bool} → v ≡ verdictFrom 0 (readAt fullRecord s 0) → v ≡ verdict.Record n k t
+      → _≡_ {A = Judged} (record { verdict = v; description = described (readAt (description 2) s at) .description }) (judged (run fullRecord s))
+  judged-record place v e q =
+      (λ i. record { verdict = e i; description = record-by place (readAt fullRecord s 0) refl (sym q ∙ e) i }) ∙ ap judged (at-start fullRecord s)
 
-  short-by : (x : Answer Record) → verdict.Short ≡ judged x .verdict → nothing ≡ judged x .description
-  unfolding judged
-  short-by (ok r n) e = impossible (cc)
-  short-by short e = refl
-  short-by (bad k p) e = refl
-
-  pub judged-short : (v : Verdict) → v ≡ judged (run fullRecord s) .verdict → v ≡ verdict.Short → unjudged v ≡ judged (run fullRecord s)
-  judged-short v e q = λ i. record { verdict = e i; description = short-by (run fullRecord s) (sym q ∙ e) i }
-
-  refused-by : {f : Fault} {p : ℕ} (x : Answer Record) → verdict.Refused f p ≡ judged x .verdict → nothing ≡ judged x .description
-  unfolding judged
+  refused-by : {f : Refusal} (x : Answer Record) → verdict.Refused f ≡ verdictFrom 0 x → nothing ≡ descriptionIn x
+  unfolding verdictFrom descriptionIn
   refused-by (ok r n) e = impossible (cc)
   refused-by short e = refl
   refused-by (bad k p) e = refl
 
-  pub judged-refused : (v : Verdict) {f : Fault} {p : ℕ} → v ≡ judged (run fullRecord s) .verdict → v ≡ verdict.Refused f p → unjudged v ≡ judged (run fullRecord s)
-  judged-refused v e q = λ i. record { verdict = e i; description = refused-by (run fullRecord s) (sym q ∙ e) i }
+  pub judged-refused : (v : Verdict) {f : Refusal} → v ≡ verdictFrom 0 (readAt fullRecord s 0) → v ≡ verdict.Refused f → unjudged v ≡ judged (run fullRecord s)
+  judged-refused v e q = (λ i. record { verdict = e i; description = refused-by (readAt fullRecord s 0) (sym q ∙ e) i }) ∙ ap judged (at-start fullRecord s)
+
+  -- where the identifier or the version fails there is none
+  pub unidentified : {f : Failure} → told (readAt identification s 0) ≡ Failed f → unjudged (verdict.Refused (refusalOf f)) ≡ judged (run fullRecord s)
+  unidentified {f} e =
+      let x = sym (at-start fullRecord s) ∙ ap (λ r. readAt r s 0) in-two ∙ at-bind-failed front body s 0 f (front-failed s 0 e) in
+      (λ i. record { verdict = verdict-of-failed 0 f i; description = nothing-failed f i }) ∙ ap judged (sym x)

@@ -3,103 +3,30 @@ use mathlib.Core.Path.{_≡_, refl, sym, ap, _∙_}
 use mathlib.Core.Logic.{_↔_, _≢_}
 use mathlib.Core.Bool.{Bool, true, false, cond, _||_}
 use mathlib.Core.List.{List, [], _∷_, _++_, append-nil, append-assoc, flatMap}
-use Prim.Native.Nat.{ℕ, zero, suc, _+_, _^_, _≤_, _<_}
-use native.Mathlib.Nat.{not-suc-le-zero}
+use Prim.Native.Nat.{ℕ, _+_, _^_, _≤_, _<_}
 use native.Mathlib.Omega.{arith}
-use lib.Dec.{T, eqb}
+use lib.Dec.{eqb}
 use lib.ListN.{length, take, getD, length-append}
 use lib.Seq.{take-append-seam, getD-append-seam}
 use borrow.Author.Tests.{eqb-true, eqb-false, eq-eqb, ne-eqb, leb-false, lt-leb}
 use Rattle.formats.specs.Bytes.{Bytes, impossible}
-use Rattle.formats.specs.Reader.{bad, run, map, one}
-use Rattle.formats.specs.Number.{number, digits, writes-number}
+use Rattle.formats.specs.Reader.{bad, run}
+use Rattle.formats.specs.Number.{digits, writes-number}
 use Rattle.formats.specs.Writes.{encodeEach, writes-one, writes-literal}
-use Rattle.formats.specs.Faults.{Faults, Never, Then, here, later, Strays, InPart, InNext, faults-as, faults-never, faults-last, faults-bind, faults-map, faults-one, faults-literal, faults-each, faults-times, faults-exactly, one-fault, never-done, never-bind, never-number, never-free}
-use Rattle.channels.specs.Channel.{S, signedOf}
-use Rattle.channels.specs.Stored.{valueOf}
-use Rattle.channels.specs.declared.Descriptor.{Descriptor}
+use Rattle.formats.specs.Faults.{Faults, Never, Then, here, later, Strays, InNext, faults-as, faults-never, faults-last, faults-bind, faults-one, faults-literal, faults-times, faults-exactly, one-fault, never-done, never-bind, never-number, never-free}
+use Rattle.channels.specs.Channel.{S}
 use Rattle.channels.specs.declared.Description.{Description}
 use Rattle.formats.specs.Binary.{bit}
 use Rattle.descriptions.specs.Description as described
-use Rattle.channels.specs.Switch.{stateOf}
-use Rattle.descriptions.specs.Description.{absent, encodeDescription, isStored}
-use Rattle.descriptions.specs.Encoded.{writes-description}
+use Rattle.descriptions.specs.Description.{encodeDescription}
+use Rattle.descriptions.specs.EncodedLaws.{writes-description}
 use Rattle.descriptions.specs.Rules as rules
-use Rattle.descriptions.specs.Faults.{faults-description, breaks-behind, breaks-alone}
-use Rattle.records.specs.Record.{identifierBytes, versionBytes, header, storedFrom, stored, switch, opening, sample, point, extension, fullRecord, encodeSample, encodePoint, fitsSample, ValidPoint}
-use Rattle.records.specs.Encoded.{writes-sample, writes-point}
+use Rattle.descriptions.specs.FaultLaws.{faults-description, breaks-behind, breaks-alone}
+use Rattle.points.specs.Points.{channels, encodeSample, encodePoint, ValidPoint}
+use Rattle.points.specs.Laws.{writes-point}
+use Rattle.points.specs.FaultLaws.{InPoint, faults-point, stored-at, stored-behind}
+use Rattle.records.specs.Record.{identifierBytes, versionBytes, header, stored, opening, extension, fullRecord}
 use Rattle.records.specs.Rules.{WrongSwitch, Breaks, identifier, version, xOrY, descriptorBit, reservedByte, openingBits, penState}
-
--- ---- A sample point
-
-abbrev InSwitch : Bool → List ℕ → ℕ → ℕ → Type 0
-InSwitch isS before b k = (isS ≡ true) × (k ≡ switch .fault) × (before ≡ []) × (switch .holds b ≡ false)
-
-faults-sample-by : (channel : ℕ) (t : Bool) → Faults (cond t (map stateOf (one switch)) (map (valueOf 2 (signedOf channel)) (number 2))) (InSwitch t)
-faults-sample-by channel true = faults-as (faults-map stateOf (faults-one switch)) (λ before b k x. (refl, x .0, x .1, x .2)) (λ before b k x. (x .1, x .2, x .3))
-faults-sample-by channel false =
-    faults-as (faults-map (valueOf 2 (signedOf channel)) (faults-never (never-number 2))) (λ before b k x. absurd x) (λ before b k x. impossible (cc (x .0)))
-
-faults-sample : (channel : ℕ) → Faults (sample channel) (InSwitch (eqb channel S))
-unfolding sample
-faults-sample channel = faults-sample-by channel (eqb channel S)
-
-abbrev InPoint : Description → List ℕ → ℕ → ℕ → Type 0
-InPoint d = InPart encodeSample (λ channel v. T (fitsSample channel v)) (λ channel. InSwitch (eqb channel S)) 0 (stored d)
-
-faults-point : (d : Description) → Faults (point d) (InPoint d)
-unfolding point
-faults-point d = faults-each writes-sample faults-sample 0 (stored d)
-
--- ---- Where S stands among the stored channels
-
--- no stored channel comes before the first
-stored-from : (ds : List Descriptor) (i n : ℕ) → n < length (storedFrom i ds) → i ≤ getD (storedFrom i ds) n 0
-unfolding storedFrom
-stored-from [] i n h = absurd (not-suc-le-zero h)
-stored-from (d ∷ ds) i n h = go (isStored d) n h (λ m q. stored-from ds (suc i) m q)
-  where
-    go : (t : Bool) (n : ℕ) → n < length (cond t (i ∷ storedFrom (suc i) ds) (storedFrom (suc i) ds))
-        → ((m : ℕ) → m < length (storedFrom (suc i) ds) → suc i ≤ getD (storedFrom (suc i) ds) m 0)
-        → i ≤ getD (cond t (i ∷ storedFrom (suc i) ds) (storedFrom (suc i) ds)) n 0
-    go true zero h rest = omega arith
-    go true (suc n) h rest = omega (arith, rest n (omega arith))
-    go false n h rest = omega (arith, rest n h)
-
--- where channel i + m stands in the nth place, those before it are the stored ones of the first m
-abbrev Found : ℕ → List Descriptor → ℕ → ℕ → Type 0
-Found i ds m n = (isStored (getD ds m absent) ≡ true) × (take n (storedFrom i ds) ≡ storedFrom i (take m ds))
-
-stored-at : (ds : List Descriptor) (i m n : ℕ) → n < length (storedFrom i ds) → getD (storedFrom i ds) n 0 ≡ i + m → Found i ds m n
-unfolding storedFrom
-stored-at [] i m n h e = absurd (not-suc-le-zero h)
-stored-at (d ∷ ds) i m n h e = go (isStored d) refl m n h e (λ m n. stored-at ds (suc i) m n)
-  where
-    go : (t : Bool) → isStored d ≡ t → (m n : ℕ) → n < length (cond t (i ∷ storedFrom (suc i) ds) (storedFrom (suc i) ds))
-        → getD (cond t (i ∷ storedFrom (suc i) ds) (storedFrom (suc i) ds)) n 0 ≡ i + m
-        → ((m n : ℕ) → n < length (storedFrom (suc i) ds) → getD (storedFrom (suc i) ds) n 0 ≡ suc i + m → Found (suc i) ds m n)
-        → (isStored (getD (d ∷ ds) m absent) ≡ true) × (take n (cond t (i ∷ storedFrom (suc i) ds) (storedFrom (suc i) ds)) ≡ storedFrom i (take m (d ∷ ds)))
-    go true q zero zero h e rest = (q, refl)
-    go true q (suc m) zero h e rest = absurd (omega arith)
-    go true q zero (suc n) h e rest = absurd (omega (arith, stored-from ds (suc i) n (omega arith)))
-    go true q (suc m) (suc n) h e rest = let x = rest m n (omega arith) (omega arith) in (x .0, rw q (ap (λ l. i ∷ l) (x .1)))
-    go false q zero n h e rest = absurd (omega (arith, stored-from ds (suc i) n h))
-    go false q (suc m) n h e rest = let x = rest m n h (omega arith) in (x .0, rw q (x .1))
-
--- and where it is stored, it stands behind those
-stored-behind : (ds : List Descriptor) (i m : ℕ) → isStored (getD ds m absent) ≡ true → (back : List ℕ) × (storedFrom i ds ≡ storedFrom i (take m ds) ++ (i + m) ∷ back)
-unfolding storedFrom
-stored-behind [] i m h = impossible (cc)
-stored-behind (d ∷ ds) i zero h = (storedFrom (suc i) ds, rw h (ap (λ c. c ∷ storedFrom (suc i) ds) {x = i} {y = i + 0} (omega arith)))
-stored-behind (d ∷ ds) i (suc m) h =
-    let x = stored-behind ds (suc i) m h in
-    let e : suc i + m ≡ i + suc m = omega arith in
-    (x .0, go (isStored d) (x .0) (rw e at (x .1)))
-  where
-    go : (t : Bool) (back : List ℕ) → storedFrom (suc i) ds ≡ storedFrom (suc i) (take m ds) ++ (i + suc m) ∷ back
-        → cond t (i ∷ storedFrom (suc i) ds) (storedFrom (suc i) ds) ≡ cond t (i ∷ storedFrom (suc i) (take m ds)) (storedFrom (suc i) (take m ds)) ++ (i + suc m) ∷ back
-    go true back e = ap (λ l. i ∷ l) e
-    go false back e = e
 
 -- ---- The record, line by line
 
@@ -109,7 +36,7 @@ never-extension true = never-bind (never-number 2) (λ n. never-bind (never-free
 never-extension false = never-done _
 
 abbrev InPoints : Description → ℕ → List ℕ → ℕ → ℕ → Type 0
-InPoints d = InNext (encodePoint d) (ValidPoint d) (InPoint d)
+InPoints d = InNext (encodePoint 2 (stored d)) (ValidPoint 2 (stored d)) (InPoint 2 (stored d))
 
 abbrev FromCount : Description → List ℕ → ℕ → ℕ → Type 0
 FromCount d = Then (digits 3) (λ n. n < 256 ^ 3) (λ before b k. ⊥) (InPoints d)
@@ -141,7 +68,7 @@ by-lines =
     faults-bind (writes-literal _ _ tt) (faults-literal _ _ tt) (λ u h.
     faults-bind (writes-one opening) (faults-one opening) (λ b h.
     faults-bind (writes-number 3) (faults-never (never-number 3)) (λ n h.
-    faults-last (faults-times (writes-point d) (faults-point d) n) (λ points.
+    faults-last (faults-times (writes-point 2 (stored d)) (faults-point 2 (stored d)) n) (λ points.
     never-bind (never-extension (bit 8 b)) (λ extended.
     never-done _))))))))
 
@@ -175,10 +102,10 @@ bracket a b c d e = simp (append-assoc, append-nil)
 -- 8: S is stored, and what stands before it in its point are the numbers of the stored channels before it
 point-to : (d : Description) → described.Valid 2 d → (o n : ℕ) → opening .holds o ≡ true → n < 256 ^ 3 → (before rest : List ℕ) (b k : ℕ)
     → before ≡ header d ++ ((o ∷ []) ++ (digits 3 n ++ rest)) → InPoints d n rest b k → Breaks before b k
-unfolding stored
+unfolding channels ValidPoint encodePoint
 point-to d good o n opens counted before rest b k e x =
     let p = x .broken in
-    let f = stored-at (d .channels) 0 S (p .place) (p .within) (eqb-true _ S (p .broken .0)) in
+    let f = stored-at (stored d) 0 S (p .place) (p .within) (eqb-true _ S (p .broken .0)) in
     let more : 1 < b = leb-false b 1 (p .broken .3) in
     rw (p .broken .1)
     (penState (record {
@@ -190,12 +117,12 @@ point-to d good o n opens counted before rest b k e x =
       points = x .values;
       fewer = omega (arith, x .fewer);
       whole = x .valid;
-      stored = f .0;
+      holds = f .0;
       numbers = p .values;
       fit = rw (f .1) at (p .valid);
       written =
           rw (← opening-admits o opens, ← f .1, e, x .written, p .written, p .broken .2)
-          (sym (bracket (header d) (o ∷ []) (digits 3 n) (flatMap (encodePoint d) (x .values)) (encodeEach encodeSample (take (p .place) (stored d)) (p .values))));
+          (sym (bracket (header d) (o ∷ []) (digits 3 n) (flatMap (encodePoint 2 (stored d)) (x .values)) (encodeEach (encodeSample 2) (take (p .place) (channels (stored d))) (p .values))));
       other = (omega arith, omega arith);
     }))
 
@@ -246,13 +173,13 @@ description-from before b k x =
     later tt (versionBytes ++ m .0) tt (m .1) (later tt (m .0) tt refl (here (m .2)))
 
 point-from : (before : List ℕ) (b : ℕ) (x : WrongSwitch before b)
-    → InPoint (x .description) (encodeEach encodeSample (storedFrom 0 (take S (x .description .channels))) (x .numbers) ++ []) b 8
-unfolding stored
+    → InPoint 2 (stored (x .description)) (encodePoint 2 (take S (stored (x .description))) (x .numbers) ++ []) b 8
+unfolding channels ValidPoint encodePoint
 point-from before b x =
-    let front = storedFrom 0 (take S (x .description .channels)) in
-    let s = stored-behind (x .description .channels) 0 S (x .stored) in
-    let seam : take (length front) (stored (x .description)) ≡ front = rw (s .1) (take-append-seam front (S ∷ s .0)) in
-    let at : getD (stored (x .description)) (length front) 0 ≡ S = rw (s .1) (getD-append-seam front S (s .0) 0) in
+    let front = channels (take S (stored (x .description))) in
+    let s = stored-behind (stored (x .description)) 0 S (x .holds) in
+    let seam : take (length front) (channels (stored (x .description))) ≡ front = rw (s .1) (take-append-seam front (S ∷ s .0)) in
+    let at : getD (channels (stored (x .description))) (length front) 0 ≡ S = rw (s .1) (getD-append-seam front S (s .0) 0) in
     record {
       place = length front;
       within = rw (s .1) (simp length-append (omega arith));
@@ -277,7 +204,7 @@ from before b k (openingBits x) =
     header-from (x .description) (x .valid) before [] b 7 (x .written ∙ sym (append-nil (header (x .description)))) (here (refl, refl, not-opening b (x .other)))
 from before b k (penState x) =
     header-from (x .description) (x .valid) before _ b 8
-    (x .written ∙ bracket (header (x .description)) (cond (x .extended) 0x80 0x00 ∷ []) (digits 3 (x .count)) (flatMap (encodePoint (x .description)) (x .points)) (encodeEach encodeSample (storedFrom 0 (take S (x .description .channels))) (x .numbers)))
+    (x .written ∙ bracket (header (x .description)) (cond (x .extended) 0x80 0x00 ∷ []) (digits 3 (x .count)) (flatMap (encodePoint 2 (stored (x .description))) (x .points)) (encodePoint 2 (take S (stored (x .description))) (x .numbers)))
     (later _ _ (opening-byte (x .extended)) refl
     (later (x .count) _ (x .counted) refl
     (record { values = x .points; fewer = x .fewer; valid = x .whole; rest = _; written = refl; broken = point-from before b x })))

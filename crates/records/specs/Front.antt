@@ -1,14 +1,15 @@
 -- A record in two parts: its front, all that stands before the points, and its body, the points and the extended data.
 use mathlib.Core.Path.{_≡_, refl, sym, _∙_}
 use mathlib.Core.Bool.{Bool}
-use mathlib.Core.List.{List, [], _∷_}
+use mathlib.Core.List.{[], _∷_}
 use Prim.Native.Nat.{ℕ}
 use Rattle.formats.specs.Reader.{Reader, done, byte, bind, one, literal, times, _>>=_, _>>_}
 use Rattle.formats.specs.Binary.{bit}
 use Rattle.formats.specs.Number.{number}
 use Rattle.channels.specs.declared.Description.{Description}
 use Rattle.descriptions.specs.Description.{description}
-use Rattle.records.specs.Record.{Record, identifierBytes, versionBytes, opening, point, extension, fullRecord}
+use Rattle.points.specs.Points.{point}
+use Rattle.records.specs.Record.{Record, identifierBytes, versionBytes, stored, opening, extension, fullRecord}
 
 -- what stands before the points: the channels, whether extended data are announced, and the number of points
 pub record Heading : Type 0 where
@@ -17,8 +18,8 @@ pub record Heading : Type 0 where
   pub count : ℕ
 
 -- the format identifier and the version
-unfoldable pub marks : Reader (Unit {0})
-marks = do
+unfoldable pub identification : Reader (Unit {0})
+identification = do
   literal 2 identifierBytes tt
   literal 3 versionBytes tt
 
@@ -37,13 +38,13 @@ channelled = do
 
 unfoldable pub front : Reader Heading
 front = do
-  marks
+  identification
   channelled
 
 -- the points and the extended data, as the front has them
 unfoldable pub body : Heading → Reader Record
 body f = do
-  points ← times (f .count) (point (f .description))
+  points ← times (f .count) (point 2 (stored (f .description)))
   extended ← extension (f .announced)
   done (record { description = f .description; points = points; extended = extended })
 
@@ -59,10 +60,10 @@ opened-body : (d : Description) → bind (opened d) body
 unfolding opened bind literal one
 opened-body d = λ i. bind (literal 6 (0x00 ∷ []) tt) (λ u. bind (one opening) (λ b. bind-assoc (number 3) (λ count. done (record { description = d; announced = bit 8 b; count = count })) body i))
 
-front-body : bind front body ≡ bind marks (λ u. bind (description 2) (λ d. bind (opened d) body))
+front-body : bind front body ≡ bind identification (λ u. bind (description 2) (λ d. bind (opened d) body))
 unfolding front channelled
-front-body = bind-assoc marks _ body ∙ (λ i. bind marks (λ u. bind-assoc (description 2) opened body i))
+front-body = bind-assoc identification _ body ∙ (λ i. bind identification (λ u. bind-assoc (description 2) opened body i))
 
 pub in-two : fullRecord ≡ bind front body
-unfolding fullRecord body marks literal bind
-in-two = sym (front-body ∙ (λ i. bind marks (λ u. bind (description 2) (λ d. opened-body d i))))
+unfolding fullRecord body identification literal bind
+in-two = sym (front-body ∙ (λ i. bind identification (λ u. bind (description 2) (λ d. opened-body d i))))

@@ -1,42 +1,24 @@
--- What is answered of some bytes, by what reading them answers. Refusals have names here; `numberOf` is document 01's number of each.
+-- What is answered of some bytes, by what reading them answers. A refusal has the number and the place that `refusals` gives it.
 use mathlib.Core.Bool.{Bool, true, false, cond}
-use mathlib.Core.List.{List, [], _∷_}
+use mathlib.Core.List.{List, []}
 use mathlib.Core.Option.{Option, none, some}
 use Prim.Native.Nat.{ℕ, _-_}
-use lib.Dec.{eqb, ltb}
-use lib.IntN.{ℤ}
+use lib.Dec.{ltb}
 use lib.ListN.{length, getD}
 use Rattle.formats.specs.Reader.{Answer, ok, short, bad}
+use Rattle.formats.specs.declared.Failure.the-variants.{Short, Bad}
+use Rattle.refusals.specs.Table.{refusalOf}
+use Rattle.refusals.specs.declared.Refusal.the-variants.{LeftOver, NoPoint}
+use Rattle.channels.specs.declared.Description.{Description}
 use Rattle.channels.specs.declared.Place.{Place}
 use Rattle.descriptions.specs.Read.{nothing}
-use Rattle.records.specs.Record.{Record}
-use Rattle.records.specs.Places.{places}
-use Rattle.records.specs.Points.{nowhere}
-use Rattle.records.specs.declared.Fault.{Fault}
-use Rattle.records.specs.declared.Fault.the-variants.{Identifier, Version, XOrY, ReservedBit, ReservedByte, OpeningBits, Switch, LeftOver}
+use Rattle.points.specs.Places.{placesOf, nowhere}
+use Rattle.records.specs.Record.{Record, included, stored}
 use Rattle.records.specs.declared.Verdict.{Verdict}
 use Rattle.records.specs.declared.Verdict.the-variants as verdict
 use Rattle.records.specs.declared.Judged.{Judged}
 use Rattle.records.specs.declared.Pointed.{Pointed}
 use Rattle.records.specs.declared.Pointed.the-variants as pointed
-
--- the number of each refusal; short is 1, and no such point is 10
-abbrev pub numberOf : Fault → ℕ
-numberOf Identifier = 2
-numberOf Version = 3
-numberOf XOrY = 4
-numberOf ReservedBit = 5
-numberOf ReservedByte = 6
-numberOf OpeningBits = 7
-numberOf Switch = 8
-numberOf LeftOver = 9
-
--- the refusal of a number, from 2 on
-abbrev pub faults : List Fault
-faults = Identifier ∷ Version ∷ XOrY ∷ ReservedBit ∷ ReservedByte ∷ OpeningBits ∷ Switch ∷ LeftOver ∷ []
-
-unfoldable pub faultOf : ℕ → Fault
-faultOf number = getD faults (number - 2) LeftOver
 
 -- whether extended data are present, and their bytes, none where they are not
 unfoldable pub present : Option (List ℕ) → Bool
@@ -49,19 +31,29 @@ extendedBytes (some bytes) = bytes
 
 -- ---- Judging
 
+-- what was read from a place on: a record with its length, its count of points and whether extended data are present; or the refusal
+unfoldable pub verdictFrom : (start : ℕ) → Answer Record → Verdict
+verdictFrom start (ok r n) = verdict.Record (n - start) (length (r .points)) (present (r .extended))
+verdictFrom start short = verdict.Refused (refusalOf Short)
+verdictFrom start (bad k p) = verdict.Refused (refusalOf (Bad k p))
+
+-- a record's description, which says nothing of any channel where there is no record
+unfoldable pub descriptionIn : Answer Record → Description
+descriptionIn (ok r n) = r .description
+descriptionIn short = nothing
+descriptionIn (bad k p) = nothing
+
+-- the front of some bytes
+abbrev pub judged : Answer Record → Judged
+judged x = record { verdict = verdictFrom 0 x; description = descriptionIn x }
+
 -- a verdict, where there is no record
 abbrev pub unjudged : Verdict → Judged
 unjudged v = record { verdict = v; description = nothing }
 
--- the front of some bytes: a record with its length, its count of points, whether extended data are present, and its description
-unfoldable pub judged : Answer Record → Judged
-judged (ok r n) = record { verdict = verdict.Record n (length (r .points)) (present (r .extended)); description = r .description }
-judged short = record { verdict = verdict.Short; description = nothing }
-judged (bad k p) = record { verdict = verdict.Refused (faultOf k) p; description = nothing }
-
 -- a whole slice of `size` bytes: the same, and 9 at the place of the first byte left over
 unfoldable pub judgedWhole : (size : ℕ) → Answer Record → Judged
-judgedWhole size (ok r n) = cond (ltb n size) (record { verdict = verdict.Refused LeftOver n; description = nothing }) (judged (ok r n))
+judgedWhole size (ok r n) = cond (ltb n size) (unjudged (verdict.Refused (LeftOver n))) (judged (ok r n))
 judgedWhole size short = judged short
 judgedWhole size (bad k p) = judged (bad k p)
 
@@ -93,12 +85,12 @@ restSize size (bad k p) = 0
 
 -- whether there is a point of this index: the front is judged first
 unfoldable pub pointedAt : (index : ℕ) → Answer Record → Pointed
-pointedAt index (ok r n) = cond (ltb index (length (r .points))) pointed.Point pointed.NoPoint
-pointedAt index short = pointed.Short
-pointedAt index (bad k p) = pointed.Refused (faultOf k) p
+pointedAt index (ok r n) = cond (ltb index (length (r .points))) pointed.Point (pointed.Refused NoPoint)
+pointedAt index short = pointed.Refused (refusalOf Short)
+pointedAt index (bad k p) = pointed.Refused (refusalOf (Bad k p))
 
 -- its sixteen places, all absent where there is no such point
 unfoldable pub placesIn : (index : ℕ) → Answer Record → List Place
-placesIn index (ok r n) = cond (ltb index (length (r .points))) (places (r .description) (getD (r .points) index [])) nowhere
+placesIn index (ok r n) = cond (ltb index (length (r .points))) (placesOf (included (r .description)) (stored (r .description)) (getD (r .points) index [])) nowhere
 placesIn index short = nowhere
 placesIn index (bad k p) = nowhere

@@ -1,5 +1,5 @@
 -- What the parts of a template answer, as code goes through them: a number of few bytes, a field by where it ends, and the fields one behind the other.
-use mathlib.Core.Path.{_≡_, refl, ap, _∙_}
+use mathlib.Core.Path.{_≡_, refl, sym, ap, _∙_}
 use mathlib.Core.Bool.{Bool, true, false, cond}
 use mathlib.Core.List.{List, [], _∷_}
 use Prim.Native.Nat.{ℕ, zero, suc, _+_, _-_, _≤_, _<_}
@@ -10,20 +10,22 @@ use lib.ListN.{length, take, drop, getD, length-drop, drop-of-length-le}
 use lib.Seq.{drop-cons, drop-drop, length-take-le}
 use borrow.Author.Tests.{leb-true, leb-false, ltb-true, ltb-false, le-leb, lt-leb, eq-eqb, ne-eqb}
 use Rattle.formats.specs.Bytes.{Bytes, impossible}
-use Rattle.formats.specs.Reader.{Answer, ok, short, bad, run, readAt}
+use Rattle.formats.specs.Reader.{ok, short, bad, run, readAt}
 use Rattle.formats.specs.Law.{refused as refused-byte}
 use Rattle.formats.specs.Compose.{at-start}
 use Rattle.formats.specs.Number.{value}
-use Rattle.formats.specs.declared.Outcome.the-variants as outcome
+use Rattle.formats.specs.Told.{failed}
+use Rattle.formats.specs.declared.Failure.{Failure}
+use Rattle.formats.specs.declared.Outcome.the-variants.{Done, Failed}
 use Rattle.channels.specs.Channel.{widthOf}
 use Rattle.channels.specs.declared.Format.the-variants.{Compact}
 use Rattle.channels.specs.declared.Description.{Description}
 use Rattle.descriptions.specs.Description.{description}
-use Rattle.descriptions.specs.Read.{nothing, described}
+use Rattle.descriptions.specs.Read.{nothing, described, described-done, described-failed}
 use Rattle.descriptions.specs.declared.Described.{Described}
 use Rattle.templates.specs.declared.Judged.{Judged}
-use Rattle.templates.specs.declared.Fault.{Fault}
-use Rattle.templates.specs.declared.Fault.the-variants.{Short, Tag, Length, Maximum, LeftOver}
+use Rattle.refusals.specs.declared.Refusal.{Refusal}
+use Rattle.refusals.specs.declared.Refusal.the-variants.{Short, Tag, Length, Maximum, LeftOver}
 use Rattle.templates.specs.declared.End.the-variants.{At, Missing}
 use Rattle.templates.specs.Reading.{saying, accepted, refused, require, withContent, isShortest, atEnd, limitedBy, limitedFrom, limitOf, filled, faultOf, filling, describedBy, contentOf, lengthAndContent, templateOf, endOf}
 
@@ -112,9 +114,9 @@ module _ (described : Bool) (d : Description) where
 abbrev Free : (Bool → Description → Judged) → Type 0
 Free f = (described : Bool) (d : Description) → filled described d (limitOf (f false nothing)) ≡ f described d
 
-free-require : (t : Bool) (fault : Fault) (f : Bool → Description → Judged) → Free f → Free (λ b d. require t fault (f b d))
-free-require true fault f h = h
-free-require false fault f h = λ described d. refl
+free-require : (t : Bool) (refusal : Refusal) (f : Bool → Description → Judged) → Free f → Free (λ b d. require t refusal (f b d))
+free-require true refusal f h = h
+free-require false refusal f h = λ described d. refl
 
 free-end : (behind : List ℕ) (f : Bool → Description → Judged) → Free f → Free (λ b d. atEnd behind (f b d))
 unfolding atEnd
@@ -141,36 +143,15 @@ free-from (tag ∷ b) = free-require (eqb tag 0x82) Tag _ (free-content b)
 
 -- what the code that reads one was told, taken back to the answer
 module _ (content : List ℕ) (r : Described) (e : r ≡ described (readAt (description (widthOf Compact)) content 0)) where
-  told : r ≡ described (run (description 1) content)
+  whole : r ≡ described (run (description 1) content)
   unfolding widthOf
-  told = e ∙ ap described (at-start (description 1) content)
+  whole = e ∙ ap described (at-start (description 1) content)
 
-  pub told-done : {n : ℕ} → r .outcome ≡ outcome.Done n → run (description 1) content ≡ ok (r .description) n
-  unfolding described
-  told-done {n} q = go (run (description 1) content) told
-    where
-      go : (x : Answer Description) → r ≡ described x → x ≡ ok (r .description) n
-      go (ok d m) t = let a = ap (λ y. y .outcome) t in let b = ap (λ y. y .description) t in cc
-      go short t = let a = ap (λ y. y .outcome) t in impossible (cc)
-      go (bad k p) t = let a = ap (λ y. y .outcome) t in impossible (cc)
+  pub description-done : {n : ℕ} → r .outcome ≡ Done n → run (description 1) content ≡ ok (r .description) n
+  description-done {n} q = described-done (run (description 1) content) (sym (ap (λ y. y .outcome) whole) ∙ q) ∙ ap (λ y. ok (y .description) n) (sym whole)
 
-  pub told-short : r .outcome ≡ outcome.Short → run (description 1) content ≡ short
-  unfolding described
-  told-short q = go (run (description 1) content) told
-    where
-      go : (x : Answer Description) → r ≡ described x → x ≡ short
-      go (ok d m) t = let a = ap (λ y. y .outcome) t in impossible (cc)
-      go short t = refl
-      go (bad k p) t = let a = ap (λ y. y .outcome) t in impossible (cc)
-
-  pub told-bad : {k p : ℕ} → r .outcome ≡ outcome.Bad k p → run (description 1) content ≡ bad k p
-  unfolding described
-  told-bad {k} {p} q = go (run (description 1) content) told
-    where
-      go : (x : Answer Description) → r ≡ described x → x ≡ bad k p
-      go (ok d m) t = let a = ap (λ y. y .outcome) t in impossible (cc)
-      go short t = let a = ap (λ y. y .outcome) t in impossible (cc)
-      go (bad j i) t = let a = ap (λ y. y .outcome) t in cc
+  pub description-failed : {f : Failure} → r .outcome ≡ Failed f → run (description 1) content ≡ failed f
+  description-failed q = described-failed (run (description 1) content) (sym (ap (λ y. y .outcome) whole) ∙ q)
 
 -- from place 4 of a slice on
 module _ (s : List ℕ) (end : ℕ) (low : 4 ≤ end) (high : end ≤ length s) where

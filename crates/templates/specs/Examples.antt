@@ -14,11 +14,13 @@ use Rattle.channels.specs.declared.Descriptor.{Descriptor}
 use Rattle.channels.specs.declared.Description.{Description}
 use Rattle.descriptions.specs.Description.{noAttribute, absent, attribute, descriptor, includes, channelOf, description}
 use Rattle.descriptions.specs.Read.{nothing}
-use Rattle.templates.specs.declared.Fault.the-variants.{Short, Tag, Length, Maximum, XOrY, ReservedBit, LeftOver}
-use Rattle.templates.specs.declared.Verdict.{Verdict}
-use Rattle.templates.specs.declared.Verdict.the-variants.{Accepted, Refused}
+use Rattle.refusals.specs.declared.Refusal.the-variants.{Short, Tag, Length, Maximum, XOrY, ReservedBit, LeftOver}
+use Rattle.refusals.specs.declared.Judgement.{Judgement}
+use Rattle.refusals.specs.declared.Judgement.the-variants.{Passed, Refused}
+use Rattle.refusals.specs.Table.{numberOf}
+use Rattle.refusals.specs.declared.Where.the-variants.{At}
 use Rattle.templates.specs.declared.Judged.{Judged}
-use Rattle.templates.specs.Reading.{numberOf, saying, accepted, refused, withContent, isShortest, atEnd, limitedBy, limitedFrom, filling, describedBy, contentOf, lengthAndContent, templateOf}
+use Rattle.templates.specs.Reading.{saying, accepted, refused, withContent, isShortest, atEnd, limitedBy, limitedFrom, filling, describedBy, contentOf, lengthAndContent, templateOf}
 
 -- a channel of which nothing is said but that it is included, and DT scaled by 100 and constant
 abbrev plain : Descriptor
@@ -49,9 +51,9 @@ abbrev xy : List Descriptor → Description
 xy others = record { channels = plain ∷ plain ∷ others }
 
 -- the number of a refusal, and 0 for a template
-abbrev numbered : Verdict → ℕ
-numbered Accepted = 0
-numbered (Refused fault) = numberOf fault
+abbrev numbered : Judgement → ℕ
+numbered Passed = 0
+numbered (Refused refusal) = numberOf refusal
 
 record Example : Type 0 where
   bytes : List ℕ
@@ -70,7 +72,7 @@ table =
     ∷ example [] 1 (refused Short)
     ∷ example (0xB1 ∷ []) 1 (refused Short)
     ∷ example (0xB1 ∷ 0x03 ∷ 0x82 ∷ 0x01 ∷ []) 1 (refused Short)
-    ∷ example (0xB1 ∷ 0x06 ∷ 0x81 ∷ 0x04 ∷ 0x40 ∷ 0x00 ∷ 0x00 ∷ 0x00 ∷ []) 4 (refused (XOrY 4))
+    ∷ example (0xB1 ∷ 0x06 ∷ 0x81 ∷ 0x04 ∷ 0x40 ∷ 0x00 ∷ 0x00 ∷ 0x00 ∷ []) 4 (refused (XOrY (At 4)))
     ∷ example (0xB1 ∷ 0x06 ∷ 0x81 ∷ 0x04 ∷ 0xC0 ∷ 0x00 ∷ 0x00 ∷ 0x01 ∷ []) 5 (refused (ReservedBit 7))
     ∷ example (0xB1 ∷ 0x00 ∷ 0x82 ∷ []) 9 (refused (LeftOver 2))
     ∷ example (0xB2 ∷ []) 16 (refused Tag)
@@ -91,5 +93,5 @@ found e = example (e .bytes) (numbered (templateOf (e .bytes) .verdict)) (templa
 
 pub examples : map found table ≡ table
 unfolding run next bind reader.map each one number valueOf offset signedOf attribute descriptor includes channelOf description nothing
-    numberOf withContent isShortest atEnd limitedBy limitedFrom filling describedBy contentOf lengthAndContent templateOf
+    withContent isShortest atEnd limitedBy limitedFrom filling describedBy contentOf lengthAndContent templateOf
 examples = refl

@@ -1,7 +1,6 @@
--- What bytes are read as, left to right: each line names what has to hold there, and the fault where it doesn't.
+-- What bytes are read as, left to right: each line names what has to hold there, and the refusal where it doesn't.
 use mathlib.Core.Bool.{Bool, true, false, not, cond, _&&_, _||_}
 use mathlib.Core.List.{List, [], _∷_}
-use mathlib.Core.Option.{Option, some, none}
 use Prim.Native.Nat.{ℕ, _+_, _-_}
 use lib.Dec.{eqb, leb, ltb}
 use lib.ListN.{length, getD, take, drop}
@@ -11,10 +10,11 @@ use Rattle.channels.specs.declared.Description.{Description}
 use Rattle.descriptions.specs.Description.{description}
 use Rattle.descriptions.specs.Read.{nothing}
 use Rattle.templates.specs.declared.Template.{Template}
-use Rattle.templates.specs.declared.Fault.{Fault}
-use Rattle.templates.specs.declared.Fault.the-variants.{Short, Tag, Length, Maximum, XOrY, ReservedBit, LeftOver}
-use Rattle.templates.specs.declared.Verdict.{Verdict}
-use Rattle.templates.specs.declared.Verdict.the-variants.{Accepted, Refused}
+use Rattle.refusals.specs.declared.Where.the-variants as byte
+use Rattle.refusals.specs.declared.Refusal.{Refusal}
+use Rattle.refusals.specs.declared.Refusal.the-variants.{Short, Tag, Length, Maximum, XOrY, ReservedBit, LeftOver}
+use Rattle.refusals.specs.declared.Judgement.{Judgement}
+use Rattle.refusals.specs.declared.Judgement.the-variants.{Passed, Refused}
 use Rattle.templates.specs.declared.Judged.{Judged}
 use Rattle.templates.specs.declared.Limit.{Limit}
 use Rattle.templates.specs.declared.End.{End}
@@ -22,40 +22,21 @@ use Rattle.templates.specs.declared.End.the-variants.{At, Missing}
 
 -- ---- Answers
 
--- the number of a refusal in document 01, and the place where it names one
-abbrev pub numberOf : Fault → ℕ
-numberOf Short = 1
-numberOf Tag = 16
-numberOf Length = 17
-numberOf Maximum = 18
-numberOf (XOrY place) = 4
-numberOf (ReservedBit place) = 5
-numberOf (LeftOver place) = 9
-
-unfoldable pub placeOf : Fault → Option ℕ
-placeOf Short = none
-placeOf Tag = none
-placeOf Length = none
-placeOf Maximum = none
-placeOf (XOrY place) = some place
-placeOf (ReservedBit place) = some place
-placeOf (LeftOver place) = some place
-
 -- a template, by what it says of channels and of points
 abbrev pub saying : (described : Bool) (d : Description) (limited : Bool) (maximum : ℕ) → Template
 saying described d limited maximum = record { described = described; description = d; limited = limited; maximum = maximum }
 
 abbrev pub accepted : Template → Judged
-accepted t = record { verdict = Accepted; template = t }
+accepted t = record { verdict = Passed; template = t }
 
 -- a refusal comes with zeros
-abbrev pub refused : Fault → Judged
-refused fault = record { verdict = Refused fault; template = saying false nothing false 0 }
+abbrev pub refused : Refusal → Judged
+refused refusal = record { verdict = Refused refusal; template = saying false nothing false 0 }
 
--- what has to hold, the fault where it doesn't, and how to go on where it does
-abbrev pub require : Bool → Fault → Judged → Judged
-require true fault rest = rest
-require false fault rest = refused fault
+-- what has to hold, the refusal where it doesn't, and how to go on where it does
+abbrev pub require : Bool → Refusal → Judged → Judged
+require true refusal rest = rest
+require false refusal rest = refused refusal
 
 -- ---- Inside
 
@@ -86,9 +67,9 @@ unfoldable pub limitedFrom : (described : Bool) (d : Description) → List ℕ �
 limitedFrom described d [] = accepted (saying described d false 0)
 limitedFrom described d (tag ∷ b) = require (eqb tag 0x82) Tag (withContent b (limitedBy described d))
 
--- the fault of a description's byte
-abbrev pub faultOf : (number place : ℕ) → Fault
-faultOf number place = cond (eqb number 4) (XOrY place) (ReservedBit place)
+-- the refusal of a description's byte
+abbrev pub faultOf : (number place : ℕ) → Refusal
+faultOf number place = cond (eqb number 4) (XOrY (byte.At place)) (ReservedBit place)
 
 -- a description has to fill its field, which starts at place 4
 unfoldable pub filling : (size : ℕ) → Answer Description → (behind : List ℕ) → Judged
@@ -130,9 +111,9 @@ endOf s at = cond (leb (length s) at) Missing (cond (ltb (length s - (at + 1)) (
 abbrev pub limitOf : Judged → Limit
 limitOf j = record { verdict = j .verdict; limited = j .template .limited; maximum = j .template .maximum }
 
-abbrev pub verdictWith : Verdict → Template → Judged
-verdictWith Accepted t = accepted t
-verdictWith (Refused fault) t = refused fault
+abbrev pub verdictWith : Judgement → Template → Judged
+verdictWith Passed t = accepted t
+verdictWith (Refused refusal) t = refused refusal
 
 -- a template of what is said of channels and of that
 abbrev pub filled : (described : Bool) (d : Description) → Limit → Judged

@@ -12,7 +12,7 @@ use Rattle.formats.specs.Writes.{All}
 use Rattle.records.specs.Record.{IsRecord}
 use Rattle.records.specs.Demands.{one-way}
 use Rattle.walks.specs.Walk.{stepOf, placeAfter, stepOfWalk, moved, walkerAfter, startOf, recordOf, Gives}
-use Rattle.walks.specs.Steps.{all-at, from-start, next-start, step-record, step-end, end-there, Passed, passes}
+use Rattle.walks.specs.StepLaws.{all-at, from-start, next-start, step-record, step-end, end-there, Covered, covers}
 use Rattle.walks.specs.declared.Found.the-variants as found
 use Rattle.walks.specs.declared.Step.{Step}
 use Rattle.walks.specs.declared.Walker.{Walker}
@@ -41,15 +41,15 @@ module _ (bs : List (List ℕ)) (records : All IsRecord bs) where
 
 module _ (file : List ℕ) (bytes : Bytes file) where
   -- however many steps were made, whole records lie behind
-  passed : (k : ℕ) → Passed file (placeAfter file k)
+  covered : (k : ℕ) → Covered file (placeAfter file k)
   unfolding placeAfter flatten
-  passed zero = record { within = omega arith; cut = []; records = tt; joined = refl }
-  passed (suc k) = passes file bytes (placeAfter file k) (passed k)
+  covered zero = record { within = omega arith; cut = []; records = tt; joined = refl }
+  covered (suc k) = covers file bytes (placeAfter file k) (covered k)
 
   pub end-has-cut : (k : ℕ) → stepOfWalk file k .found ≡ found.End
       → (bs : List (List ℕ)) × All IsRecord bs × (flatten bs ≡ file) × Gives file bs × ((cs : List (List ℕ)) → All IsRecord cs → flatten cs ≡ file → cs ≡ bs)
   end-has-cut k e =
-      let p = passed k in
+      let p = covered k in
       let bs = p .cut in
       let whole : flatten bs ≡ file = p .joined ∙ take-all (placeAfter file k) file (end-there file (placeAfter file k) e) in
       (bs, p .records, whole, rw whole at (gives-the-cut bs (p .records)), λ cs h g. one-way cs bs h (p .records) (g ∙ sym whole))

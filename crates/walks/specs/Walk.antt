@@ -4,11 +4,13 @@ use mathlib.Core.Bool.{cond}
 use mathlib.Core.List.{List, [], flatten}
 use Prim.Native.Nat.{ℕ, zero, suc, _+_, _≤_, _<_}
 use lib.Dec.{ltb}
-use lib.ListN.{length, take, drop, getD}
+use lib.ListN.{length, take, getD}
 use denote.Ref.{RefT, now}
-use Rattle.formats.specs.Reader.{Answer, ok, short, bad, run}
-use Rattle.records.specs.Record.{Record, fullRecord, IsRecord}
-use Rattle.records.specs.Verdict.{faultOf, present}
+use Rattle.formats.specs.Reader.{readAt}
+use Rattle.records.specs.Record.{fullRecord, IsRecord}
+use Rattle.records.specs.Verdict.{present, verdictFrom}
+use Rattle.records.specs.declared.Verdict.{Verdict}
+use Rattle.records.specs.declared.Verdict.the-variants as verdict
 use Rattle.walks.specs.declared.Found.{Found}
 use Rattle.walks.specs.declared.Found.the-variants as found
 use Rattle.walks.specs.declared.Step.{Step}
@@ -20,15 +22,14 @@ use Rattle.walks.specs.declared.Walker.{Walker}
 abbrev pub stays : Found → (place : ℕ) → Step
 stays f place = record { found = f; next = place }
 
--- what is read from a place on: the place behind a record is the next; a refusal's place counts from the file's start
-unfoldable pub stepped : (place : ℕ) → Answer Record → Step
-stepped place (ok r n) = record { found = found.Record n (length (r .points)) (present (r .extended)); next = place + n }
-stepped place short = stays found.Short place
-stepped place (bad k p) = stays (found.Refused (faultOf k) (place + p)) place
+-- by the verdict on what stands at a place: the place behind a record is the next
+unfoldable pub stepped : (place : ℕ) → Verdict → Step
+stepped place (verdict.Record n count extended) = record { found = found.Record n count extended; next = place + n }
+stepped place (verdict.Refused refusal) = stays (found.Refused refusal) place
 
--- a step from a place: "end" at the file's end and beyond it, and else what is read there
+-- a step from a place: "end" at the file's end and beyond it, and else what is read there, whose places count from the file's start
 unfoldable pub stepOf : (file : List ℕ) (place : ℕ) → Step
-stepOf file place = cond (ltb place (length file)) (stepped place (run fullRecord (drop place file))) (stays found.End place)
+stepOf file place = cond (ltb place (length file)) (stepped place (verdictFrom place (readAt fullRecord file place))) (stays found.End place)
 
 -- ---- A walk
 

@@ -1,10 +1,10 @@
 // A file of joined records, one record at a time: from a place of the file, and by a walker that keeps the place.
-use records::Fault;
 use records::Verdict;
+use refusals::Refusal;
 ghost use mathlib.Core.Path.{_≡_};
 ghost use Rattle.walks.specs.Walk.{stays, stepOf, atStart, moved};
 
-// What stands at a place of a file. Short is refusal 1; a refusal's place counts from the file's start.
+// What stands at a place of a file. A refusal's place counts from the file's start.
 pub enum Found {
     Record {
         length: usize,
@@ -12,11 +12,7 @@ pub enum Found {
         extended: bool,
     },
     End,
-    Short,
-    Refused {
-        fault: Fault,
-        place: usize,
-    },
+    Refused(Refusal),
 }
 
 // What stands at a place, and the place afterwards: behind a record, or where it was.
@@ -42,7 +38,7 @@ pub fn step_at(file: &[u8], place: usize) -> Step
     if file.len() <= place {
         return stay(Found::End, place);
     }
-    let verdict = records::verdict_of(&file[place..]);
+    let verdict = records::verdict_at(file, place);
     match verdict {
         Verdict::Record {
             length,
@@ -59,17 +55,7 @@ pub fn step_at(file: &[u8], place: usize) -> Step
                 next: next,
             }
         }
-        Verdict::Short => stay(Found::Short, place),
-        Verdict::Refused { fault, place: at } => {
-            let refused = place + at;
-            stay(
-                Found::Refused {
-                    fault: fault,
-                    place: refused,
-                },
-                place,
-            )
-        }
+        Verdict::Refused(refusal) => stay(Found::Refused(refusal), place),
     }
 }
 

@@ -1,5 +1,4 @@
 -- `channels::offset_of` meets its contract: the offsets of the two formats, by cases.
-use mathlib.Core.Path.{sym}
 use borrow.Author.Needs.{needs}
 use Rattle.channels.specs.Channel.{widthOf}
 use Rattle.channels.specs.Stored.{offset}

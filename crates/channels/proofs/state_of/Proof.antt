@@ -1,5 +1,4 @@
 -- `channels::state_of` meets its contract: the test is the definition's.
-use mathlib.Core.Path.{_≡_, ap, sym}
 use native.Mathlib.Omega.{arith}
 use borrow.Author.Needs.{needs}
 use borrow.Author.Tests.{le-leb, lt-leb}

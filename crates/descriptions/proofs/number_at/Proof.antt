@@ -6,7 +6,7 @@ use borrow.Author.Needs.{needs}
 use lib.ListN.{length}
 use Rattle.channels.specs.Channel.{widthOf}
 use Rattle.channels.specs.declared.Format.{Format}
-use Rattle.descriptions.proofs.Parts.{one-byte, two-bytes}
+use Rattle.formats.specs.Number.{at-one, at-two}
 use Rattle.descriptions.proofs.number_at.Statement.{statement}
 use Rattle.descriptions.proofs.number_at.Tie as tie
 
@@ -43,11 +43,11 @@ pair-requires-2 c κs = search needs
 
 returns : tie.Need-returns
 unfolding widthOf
-returns c = let e = c .before .before .before in rw (c .pair .ensures, e .enum-told .given .1) (two-bytes _ _ (room (e .before .before .before) (e .enum-told .given .1)))
+returns c = let e = c .before .before .before in rw (c .pair .ensures, e .enum-told .given .1) (at-two _ _ (room (e .before .before .before) (e .enum-told .given .1)))
 
 returns-2 : tie.Need-returns-2
 unfolding widthOf
-returns-2 c = let e = c .before .before in rw (c .pair2 .ensures, e .enum-told2 .given .1) (one-byte _ _ (omega (arith, room (e .before .before .before) (e .enum-told2 .given .1))))
+returns-2 c = let e = c .before .before in rw (c .pair2 .ensures, e .enum-told2 .given .1) (at-one _ _ (omega (arith, room (e .before .before .before) (e .enum-told2 .given .1))))
 
 pub number-at-spec : {M : Type 1} → statement M
 number-at-spec =

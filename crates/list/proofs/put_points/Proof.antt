@@ -1,54 +1,30 @@
 -- `list::put_points` is safe and ends: each turn takes one channel more, and each turn outside one point more.
-use mathlib.Core.Path.{_≡_}
-use Prim.Native.Nat.{ℕ, _≤_, _-_}
 use native.Mathlib.Omega.{arith}
+use Prim.Native.Nat.{_≤_, _<_, _-_}
 use borrow.Author.Needs.{needs}
-use lib.ListN.{length}
-use Rattle.channels.specs.Channel.{widthOf}
-use Rattle.channels.specs.declared.Description.{Description}
-use Rattle.channels.specs.declared.Format.the-variants.{Full}
-use Rattle.descriptions.specs.Description.{encodeDescription}
-use Rattle.descriptions.specs.Size.{description-size}
 use Rattle.list.proofs.put_points.Statement.{statement}
 use Rattle.list.proofs.put_points.Tie as tie
 
 abbrev Inv-loop2 : tie.InvT-loop2
-Inv-loop2 text₀ start file place count description used₀ at₀ index channel₀ text used at channel = channel ≤ 16
+Inv-loop2 text₀ start file place front included stored used₀ at₀ index channel₀ text used at channel = channel ≤ 16
 
 abbrev μ-loop2 : tie.MeasureT-loop2
-μ-loop2 text₀ start file place count description used₀ at₀ index channel₀ text used at channel = 16 - channel
+μ-loop2 text₀ start file place front included stored used₀ at₀ index channel₀ text used at channel = 16 - channel
 
 abbrev Inv-loop : tie.InvT-loop
-Inv-loop text₀ start file place count description used₀ at₀ index₀ text used at index = index ≤ count
+Inv-loop text₀ start file place front included stored used₀ at₀ index₀ text used at index = index ≤ front .count
 
 abbrev μ-loop : tie.MeasureT-loop
-μ-loop text₀ start file place count description used₀ at₀ index₀ text used at index = count - index
+μ-loop text₀ start file place front included stored used₀ at₀ index₀ text used at index = front .count - index
 
--- a description's bytes are few
-size-small : (d : Description) (r : ℕ) → r ≡ length (encodeDescription (widthOf Full) d) → r ≤ 178
-unfolding widthOf
-size-small d r e = omega (arith, description-size 2 d)
+front-at-requires : tie.Need-front-at-requires Inv-loop2 μ-loop2 Inv-loop μ-loop
+front-at-requires c κs = search needs
 
-add-read : tie.Need-add-read Inv-loop2 μ-loop2 Inv-loop μ-loop
-add-read c = search needs
-
-read-requires : tie.Need-read-requires Inv-loop2 μ-loop2 Inv-loop μ-loop
-read-requires c κs = search needs
-
-point-width-requires : tie.Need-point-width-requires Inv-loop2 μ-loop2 Inv-loop μ-loop
-point-width-requires c κs = search needs
+width-requires : tie.Need-width-requires Inv-loop2 μ-loop2 Inv-loop μ-loop
+width-requires c κs = search needs
 
 returns : tie.Need-returns Inv-loop2 μ-loop2 Inv-loop μ-loop
 returns c = search needs
-
-add-at : tie.Need-add-at Inv-loop2 μ-loop2 Inv-loop μ-loop
-add-at c = search needs
-
-size-requires : tie.Need-size-requires Inv-loop2 μ-loop2 Inv-loop μ-loop
-size-requires c κs = search needs
-
-add-at-2 : tie.Need-add-at-2 Inv-loop2 μ-loop2 Inv-loop μ-loop
-add-at-2 c = record { fits = omega (arith, size-small _ _ (c .size .ensures)) }
 
 loop-holds : tie.Need-loop-holds Inv-loop2 μ-loop2 Inv-loop μ-loop
 loop-holds c = search needs
@@ -59,11 +35,11 @@ put-index-requires c κs = search needs
 loop2-holds : tie.Need-loop2-holds Inv-loop2 μ-loop2 Inv-loop μ-loop
 loop2-holds c = search needs
 
-mul-d : tie.Need-mul-d Inv-loop2 μ-loop2 Inv-loop μ-loop
-mul-d c = search needs
+array-read-place-at : tie.Need-array-read-place-at Inv-loop2 μ-loop2 Inv-loop μ-loop
+array-read-place-at c = search needs
 
-element-copy-out-d : tie.Need-element-copy-out-d Inv-loop2 μ-loop2 Inv-loop μ-loop
-element-copy-out-d c = search needs
+array-read-place-at-2 : tie.Need-array-read-place-at-2 Inv-loop2 μ-loop2 Inv-loop μ-loop
+array-read-place-at-2 c = search needs
 
 place-at-requires : tie.Need-place-at-requires Inv-loop2 μ-loop2 Inv-loop μ-loop
 place-at-requires c κs = search needs
@@ -112,18 +88,14 @@ put-points-spec =
     μ-loop2
     Inv-loop
     μ-loop
-    add-read
-    read-requires
-    point-width-requires
+    front-at-requires
+    width-requires
     returns
-    add-at
-    size-requires
-    add-at-2
     loop-holds
     put-index-requires
     loop2-holds
-    mul-d
-    element-copy-out-d
+    array-read-place-at
+    array-read-place-at-2
     place-at-requires
     enum-known-held
     put-place-requires

@@ -6,22 +6,31 @@ use native.Mathlib.Omega.{arith}
 use borrow.Author.Needs.{needs}
 use borrow.Author.Tests.{eq-eqb, ne-eqb}
 use lib.ListN.{length, take, drop}
+use Rattle.formats.specs.Reader.{run}
+use Rattle.formats.specs.Told.{failed}
+use Rattle.descriptions.specs.Description.{description}
 use Rattle.templates.specs.Reading.{describedBy, refused, faultOf, filled}
-use Rattle.templates.proofs.Parts.{free-from, told-done, told-short, told-bad, described-whole, described-part, described-short, described-bad}
+use Rattle.templates.proofs.Parts.{free-from, description-done, description-failed, described-whole, described-part, described-short, described-bad}
 use Rattle.templates.proofs.described_by.Statement.{statement}
 use Rattle.templates.proofs.described_by.Tie as tie
 
 abbrev start : tie.After-description → tie.Start
 start c = c .before .before .before .before
 
--- a byte of the description was refused
-broken : (c : tie.After-outcome2)
-    → let a = start (c .before .before) .args in
-    (describedBy (take (a .end - 4) (drop 4 (a .s .now))) (drop (a .end) (a .s .now)) ≡ refused (faultOf (c .outcome2 .given .0 .0) (4 + c .outcome2 .given .0 .1 .0)))
-    × (4 + c .outcome2 .given .0 .1 .0 < length (a .s .now))
+-- the description fails
+failing : (c : tie.After-outcome2) → let a = start (c .before .before) .args in
+    run (description 1) (take (a .end - 4) (drop 4 (a .s .now))) ≡ failed (c .outcome2 .given .0 .0)
+failing c = description-failed _ _ (c .before .before .before .read .ensures) (c .outcome2 .given .1)
+
+-- a byte of it was refused
+broken : (c : tie.After-failure) → let o = c .before .before .before in
+    let a = start (o .before .before) .args in
+    (describedBy (take (a .end - 4) (drop 4 (a .s .now))) (drop (a .end) (a .s .now)) ≡ refused (faultOf (c .failure .given .0 .0) (4 + c .failure .given .0 .1 .0)))
+    × (4 + c .failure .given .0 .1 .0 < length (a .s .now))
 broken c =
-    let a = start (c .before .before) .args in
-    described-bad (a .s .now) (a .end) (search needs) (search needs) (told-bad _ _ (c .before .before .before .read .ensures) (c .outcome2 .given .1))
+    let o = c .before .before .before in
+    let a = start (o .before .before) .args in
+    described-bad (a .s .now) (a .end) (search needs) (search needs) (failing o ∙ ap failed (c .failure .given .1))
 
 sub-content : tie.Need-sub-content
 sub-content c = search needs
@@ -48,7 +57,7 @@ returns : tie.Need-returns
 returns c =
     let k = c .before .before .before in
     let a = start (k .before .before) .args in
-    c .refused .ensures ∙ sym (described-part (a .s .now) (a .end) (search needs) (search needs) (told-done _ _ (k .before .before .before .read .ensures) (k .outcome .given .1)) (c .before .if1 .taken))
+    c .refused .ensures ∙ sym (described-part (a .s .now) (a .end) (search needs) (search needs) (description-done _ _ (k .before .before .before .read .ensures) (k .outcome .given .1)) (c .before .if1 .taken))
 
 limited-from-requires : tie.Need-limited-from-requires
 limited-from-requires c κs = search needs
@@ -56,17 +65,20 @@ limited-from-requires c κs = search needs
 fill-requires : tie.Need-fill-requires
 fill-requires c κs = search needs
 
+enum-known-outcome-2 : tie.Need-enum-known-outcome-2
+enum-known-outcome-2 c = search needs
+
 enum-told : tie.Need-enum-told
 enum-told c = search needs
 
 refused-requires-2 : tie.Need-refused-requires-2
 refused-requires-2 c κs = search needs
 
-enum-known-outcome-2 : tie.Need-enum-known-outcome-2
-enum-known-outcome-2 c = search needs
+enum-known-failure : tie.Need-enum-known-failure
+enum-known-failure c = search needs
 
-add-t21 : tie.Need-add-t21
-add-t21 c = omega (arith, broken (c .before .before) .1)
+add-t23 : tie.Need-add-t23
+add-t23 c = omega (arith, broken (c .before .before) .1)
 
 refused-requires-3 : tie.Need-refused-requires-3
 refused-requires-3 c κs = search needs
@@ -74,8 +86,8 @@ refused-requires-3 c κs = search needs
 returns-2 : tie.Need-returns-2
 returns-2 c = c .refused3 .ensures ∙ sym (broken (c .before .before .before) .0 ∙ rw (eq-eqb _ 4 (c .before .if2 .taken)))
 
-add-t23 : tie.Need-add-t23
-add-t23 c = omega (arith, broken (c .before .before) .1)
+add-t26 : tie.Need-add-t26
+add-t26 c = omega (arith, broken (c .before .before) .1)
 
 refused-requires-4 : tie.Need-refused-requires-4
 refused-requires-4 c κs = search needs
@@ -88,13 +100,13 @@ returns-3 c =
     c .fill .ensures
     ∙ ap (filled true d) (c .before .limited-from .ensures)
     ∙ free-from (drop (a .end) (a .s .now)) true d
-    ∙ sym (described-whole (a .s .now) (a .end) (search needs) (search needs) (told-done _ _ (k .before .before .before .read .ensures) (k .outcome .given .1)) (c .before .before .if1 .left))
+    ∙ sym (described-whole (a .s .now) (a .end) (search needs) (search needs) (description-done _ _ (k .before .before .before .read .ensures) (k .outcome .given .1)) (c .before .before .if1 .left))
 
 returns-4 : tie.Need-returns-4
 returns-4 c =
-    let k = c .before in
-    let a = start (k .before .before) .args in
-    c .refused2 .ensures ∙ sym (described-short (a .s .now) (a .end) (search needs) (search needs) (told-short _ _ (k .before .before .before .read .ensures) (k .enum-told .given .1)))
+    let o = c .before .before .before .before in
+    let a = start (o .before .before) .args in
+    c .refused2 .ensures ∙ sym (described-short (a .s .now) (a .end) (search needs) (search needs) (failing o ∙ ap failed (c .before .enum-told .given .1)))
 
 returns-5 : tie.Need-returns-5
 returns-5 c = c .refused4 .ensures ∙ sym (broken (c .before .before .before) .0 ∙ rw (ne-eqb _ 4 (c .before .if2 .left)))
@@ -113,13 +125,14 @@ described-by-spec =
     returns
     limited-from-requires
     fill-requires
+    enum-known-outcome-2
     enum-told
     refused-requires-2
-    enum-known-outcome-2
-    add-t21
+    enum-known-failure
+    add-t23
     refused-requires-3
     returns-2
-    add-t23
+    add-t26
     refused-requires-4
     returns-3
     returns-4

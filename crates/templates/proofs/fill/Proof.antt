@@ -1,5 +1,4 @@
 -- `templates::fill` meets its contract: by the verdict on what stands behind the channels.
-use mathlib.Core.Path.{_≡_, _∙_}
 use borrow.Author.Needs.{needs}
 use Rattle.templates.proofs.fill.Statement.{statement}
 use Rattle.templates.proofs.fill.Tie as tie

@@ -6,7 +6,7 @@ use native.Mathlib.Numerals.{add-one}
 use native.Mathlib.Omega.{arith}
 use lib.ListN.{length}
 use Rattle.formats.specs.Number.{value}
-use Rattle.templates.specs.Encoded.{at-most-three}
+use Rattle.templates.specs.EncodedLaws.{at-most-three}
 use Rattle.templates.proofs.Parts.{room-for-more}
 use Rattle.templates.proofs.number_of.Statement.{statement}
 use Rattle.templates.proofs.number_of.Tie as tie

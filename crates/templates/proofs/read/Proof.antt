@@ -6,7 +6,7 @@ use borrow.Author.Needs.{needs}
 use borrow.Author.Tests.{lt-ltb, le-ltb, le-leb, lt-leb}
 use lib.Dec.{ltb, leb}
 use lib.ListN.{length, drop, getD}
-use Rattle.templates.specs.declared.Fault.the-variants.{Short, Length, LeftOver}
+use Rattle.refusals.specs.declared.Refusal.the-variants.{Short, Length, LeftOver}
 use Rattle.templates.specs.Reading.{require, contentOf, templateOf}
 use Rattle.templates.proofs.Parts.{template-none, template-other, template-tag, template-field}
 use Rattle.templates.proofs.read.Statement.{statement}

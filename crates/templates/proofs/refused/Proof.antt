@@ -1,4 +1,4 @@
--- `templates::refused` meets its contract: the fault as it is, with zeros.
+-- `templates::refused` meets its contract: the refusal as it is, with zeros.
 use borrow.Author.Needs.{needs}
 use Rattle.templates.proofs.refused.Statement.{statement}
 use Rattle.templates.proofs.refused.Tie as tie

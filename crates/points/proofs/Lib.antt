@@ -1,0 +1,4 @@
+pub mod Samples
+pub mod Walk
+pub mod Setting
+pub mod Past

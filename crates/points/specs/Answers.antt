@@ -1,0 +1,26 @@
+-- Each public function has one answer: whatever meets its promise is the same.
+use mathlib.Core.Path.{_≡_}
+use mathlib.Core.Bool.{Bool}
+use mathlib.Core.List.{List}
+use Prim.Native.Nat.{ℕ, _≤_}
+use Rattle.formats.specs.OneAnswer.{OneAnswer, named}
+use Rattle.formats.specs.Reader.{readAt, times}
+use Rattle.formats.specs.Told.{told}
+use Rattle.channels.specs.Channel.{widthOf}
+use Rattle.channels.specs.declared.Format.{Format}
+use Rattle.points.specs.Points.{point, width}
+use Rattle.points.specs.Places.{placesIn}
+use Rattle.points.specs.Parts.{place, taken}
+
+pub one-width : (format : Format) (stored : List Bool) → OneAnswer (λ r. (r ≡ width (widthOf format) stored) × (r ≤ 32))
+one-width format stored r q e g = named r q (e .0) (g .0)
+
+module _ (s : List ℕ) (start : ℕ) (format : Format) where
+  pub one-judged : (stored : List Bool) (count : ℕ) → OneAnswer (λ r. r ≡ told (readAt (times count (point (widthOf format) stored)) s start))
+  one-judged stored count = named
+
+  pub one-place : (channel : ℕ) (included stored : Bool) → OneAnswer (λ r. r ≡ taken (readAt (place (widthOf format) channel included stored) s start))
+  one-place channel included stored = named
+
+  pub one-places : (included stored : List Bool) → OneAnswer (λ r. r ≡ placesIn included stored (readAt (point (widthOf format) stored) s start))
+  one-places included stored = named

@@ -1,0 +1,272 @@
+// Sample points of ISO/IEC 19794-7:2007 (7.4.2, 8.4), at the width of either format: measured, judged, set out as places, and put.
+use channels::Format;
+use channels::Place;
+use channels::Switch;
+use formats::Failure;
+use formats::Outcome;
+ghost use mathlib.Core.Path.{_≡_};
+ghost use Prim.Native.Nat.{ℕ, _+_, _*_, _≤_, _<_};
+ghost use lib.ListN.{length, drop};
+ghost use Rattle.formats.specs.Reader.{readAt, times, ok};
+ghost use Rattle.formats.specs.Number.{number as numberReader};
+ghost use Rattle.formats.specs.Told.{told, repeated};
+ghost use Rattle.formats.specs.Jump.{ends};
+ghost use Rattle.formats.specs.declared.Outcome.the-variants.{Failed};
+ghost use Rattle.channels.specs.Channel.{widthOf};
+ghost use Rattle.points.specs.Points.{storedFrom, sample, point, sampleSize, widths, width as pointWidth};
+ghost use Rattle.points.specs.Places.{placesIn};
+ghost use Rattle.points.specs.Parts.{sampled, taken, place, switched};
+
+// How many bytes a channel's number has in a sample point: one for S, as many as the format says for any other.
+fn sample_size(format: Format, channel: usize) -> usize
+    ensures { λ r. ⌜ (r ≡ sampleSize (widthOf format) channel) × (r ≤ 2) ⌝ }
+{
+    if channel == channels::S {
+        return 1;
+    }
+    match format {
+        Format::Full => 2,
+        Format::Compact => 1,
+    }
+}
+
+// How many bytes of a sample point the channels from `first` on have.
+fn width_from(format: Format, stored: [bool; 16], first: usize) -> usize
+    ensures { λ r. ⌜ (r ≡ widths (widthOf format) (storedFrom first (drop first stored))) × (r ≤ 32) ⌝ }
+{
+    let mut w: usize = 0;
+    let mut i: usize = first;
+    while i < 16 {
+        if stored[i] {
+            w += sample_size(format, i);
+        }
+        i += 1;
+    }
+    w
+}
+
+// How many bytes a sample point has that holds numbers of these channels.
+pub fn width(format: Format, stored: [bool; 16]) -> usize
+    ensures { λ r. ⌜ (r ≡ pointWidth (widthOf format) stored) × (r ≤ 32) ⌝ }
+{
+    width_from(format, stored, 0)
+}
+
+// Points that may be any bytes are passed over at once.
+fn jump(bytes: &[u8], start: usize, width: usize, count: usize) -> Outcome
+    requires { ⌜ start ≤ length (now bytes) ⌝ }
+    ensures { λ r. ⌜ r ≡ ends (now (bytes .entry)) start (count * width) ⌝ }
+{
+    if !formats::is_within(count, width, bytes.len() - start) {
+        return Outcome::Failed(Failure::Short);
+    }
+    Outcome::Done(start + count * width)
+}
+
+// How a sample point fails that is cut, whose switch stands `offset` bytes behind its start: the switch is looked at where it is there.
+fn cut(bytes: &[u8], start: usize, offset: usize) -> Failure
+    requires { ⌜ start ≤ length (now bytes) ⌝ }
+    ensures { λ r. ⌜ ((width : ℕ) → length (now (bytes .entry)) < start + width → Failed r ≡ switched (now (bytes .entry)) start width offset) ⌝ }
+{
+    if bytes.len() - start <= offset {
+        return Failure::Short;
+    }
+    match channels::state_of(bytes[start + offset]) {
+        Switch::State(_) => Failure::Short,
+        Switch::NotAdmitted => Failure::Bad(8, start + offset),
+    }
+}
+
+// How many of some points are whole, where there is room for so many bytes.
+fn whole_points(room: usize, width: usize, count: usize) -> usize
+    requires { ⌜ 0 < width ⌝ }
+    ensures { λ r. ⌜ (r ≤ count) × (r * width ≤ room) × (r < count → room < (r + 1) * width) ⌝ }
+{
+    let there = room / width;
+    if there < count {
+        return there;
+    }
+    count
+}
+
+// Points one by one: where they have a switch, each of its bytes is looked at. How many are whole is asked once, and not at each.
+fn walk_points(bytes: &[u8], start: usize, width: usize, offset: usize, count: usize) -> Outcome
+    requires { ⌜ (start ≤ length (now bytes)) × (offset < width) × (width ≤ 32) ⌝ }
+    ensures { λ r. ⌜ r ≡ repeated (λ at. switched (now (bytes .entry)) at width offset) count start ⌝ }
+{
+    let whole = whole_points(bytes.len() - start, width, count);
+    let mut at = start;
+    let mut i: usize = 0;
+    while i < whole {
+        let state = channels::state_of(bytes[at + offset]);
+        let Switch::State(_) = state else {
+            return Outcome::Failed(Failure::Bad(8, at + offset));
+        };
+        at += width;
+        i += 1;
+    }
+    if whole < count {
+        return Outcome::Failed(cut(bytes, at, offset));
+    }
+    Outcome::Done(at)
+}
+
+// Points that start within the bytes.
+fn judge_within(
+    bytes: &[u8],
+    start: usize,
+    format: Format,
+    stored: [bool; 16],
+    count: usize,
+) -> Outcome
+    requires { ⌜ start ≤ length (now bytes) ⌝ }
+    ensures { λ r. ⌜ r ≡ told (readAt (times count (point (widthOf format) stored)) (now (bytes .entry)) start) ⌝ }
+{
+    let width = width_from(format, stored, 0);
+    if stored[channels::S] {
+        let offset = width - width_from(format, stored, channels::S);
+        return walk_points(bytes, start, width, offset, count);
+    }
+    jump(bytes, start, width, count)
+}
+
+// Where some points end that stand from a place on; or that the bytes run out; or refusal 8 with its byte's place.
+// A start past the end is as the end is: points without bytes are there, others are short.
+pub fn judge(
+    bytes: &[u8],
+    start: usize,
+    format: Format,
+    stored: [bool; 16],
+    count: usize,
+) -> Outcome
+    ensures { λ r. ⌜ r ≡ told (readAt (times count (point (widthOf format) stored)) (now (bytes .entry)) start) ⌝ }
+{
+    if start <= bytes.len() {
+        return judge_within(bytes, start, format, stored, count);
+    }
+    if count == 0 {
+        return Outcome::Done(start);
+    }
+    if width_from(format, stored, 0) == 0 {
+        return Outcome::Done(start);
+    }
+    Outcome::Failed(Failure::Short)
+}
+
+// A number in one byte or two, which are there.
+fn number_at(bytes: &[u8], at: usize, format: Format) -> u16
+    requires { ⌜ at + widthOf format ≤ length (now bytes) ⌝ }
+    ensures { λ r. ⌜ readAt (numberReader (widthOf format)) (now (bytes .entry)) at ≡ ok r (at + widthOf format) ⌝ }
+{
+    match format {
+        Format::Full => formats::pair(bytes[at], bytes[at + 1]),
+        Format::Compact => formats::pair(0, bytes[at]),
+    }
+}
+
+// What a sample point holds of a channel and where that ends, or how reading it fails.
+enum Sample {
+    Number { value: i32, next: usize },
+    Failed(Failure),
+}
+
+// A channel's number in a sample point.
+fn sample_at(bytes: &[u8], at: usize, format: Format, channel: usize) -> Sample
+    ensures { λ r. ⌜ r ≡ sampled (readAt (sample (widthOf format) channel) (now (bytes .entry)) at) ⌝ }
+{
+    if bytes.len() <= at {
+        return Sample::Failed(Failure::Short);
+    }
+    if channel == channels::S {
+        match channels::state_of(bytes[at]) {
+            Switch::State(value) => Sample::Number {
+                value: value,
+                next: at + 1,
+            },
+            Switch::NotAdmitted => Sample::Failed(Failure::Bad(8, at)),
+        }
+    } else {
+        let size = sample_size(format, channel);
+        if bytes.len() - at < size {
+            return Sample::Failed(Failure::Short);
+        }
+        let number = number_at(bytes, at, format);
+        let value = channels::value_of(format, channels::is_signed(channel), number);
+        Sample::Number {
+            value: value,
+            next: at + size,
+        }
+    }
+}
+
+// What a sample point says of a channel and where that ends, or how reading it fails.
+pub enum Taken {
+    Took { place: Place, next: usize },
+    Failed(Failure),
+}
+
+// What stands at a place for a channel of a sample point, by its two flags. A channel that isn't stored has no bytes.
+pub fn place_at(
+    bytes: &[u8],
+    at: usize,
+    format: Format,
+    channel: usize,
+    included: bool,
+    stored: bool,
+) -> Taken
+    ensures { λ r. ⌜ r ≡ taken (readAt (place (widthOf format) channel included stored) (now (bytes .entry)) at) ⌝ }
+{
+    if stored {
+        match sample_at(bytes, at, format, channel) {
+            Sample::Number { value, next } => Taken::Took {
+                place: Place::Number(value),
+                next: next,
+            },
+            Sample::Failed(failure) => Taken::Failed(failure),
+        }
+    } else {
+        let place = if included {
+            Place::Constant
+        } else {
+            Place::Absent
+        };
+        Taken::Took {
+            place: place,
+            next: at,
+        }
+    }
+}
+
+// The sixteen places of the sample point that stands at a place of some bytes, all absent where none stands there:
+// why there is none, `judge` says of one point. One array is handed back: were there a second, each copy of it would be made place by place.
+pub fn places(
+    bytes: &[u8],
+    start: usize,
+    format: Format,
+    included: [bool; 16],
+    stored: [bool; 16],
+) -> [Place; 16]
+    ensures { λ r. ⌜ r ≡ placesIn included stored (readAt (point (widthOf format) stored) (now (bytes .entry)) start) ⌝ }
+{
+    let mut places = [Place::Absent; 16];
+    let mut at = start;
+    let mut channel: usize = 0;
+    while channel < 16 {
+        let taken = place_at(
+            bytes,
+            at,
+            format,
+            channel,
+            included[channel],
+            stored[channel],
+        );
+        let Taken::Took { place, next } = taken else {
+            places = [Place::Absent; 16];
+            return places;
+        };
+        places[channel] = place;
+        at = next;
+        channel += 1;
+    }
+    places
+}

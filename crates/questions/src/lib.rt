@@ -1,0 +1,169 @@
+// Questions: each is read from its words, asked of the library, and answered.
+mod thousandths;
+mod writing;
+
+use records::Pointed;
+use refusals::Judgement;
+use words::hex::Amount;
+
+const JUDGE: usize = 0;
+
+const WHOLE: usize = 1;
+
+const EXTENDED: usize = 2;
+
+const REST: usize = 3;
+
+const TEMPLATE: usize = 4;
+
+const POINT: usize = 5;
+
+const STEP: usize = 6;
+
+const WRITE: usize = 7;
+
+const WRITE_TEMPLATE: usize = 8;
+
+const THOUSANDTHS: usize = 9;
+
+const PLACE: usize = 10;
+
+// The question of a name, or 11 where there is no such question.
+fn question_of(name: &[u8]) -> usize {
+    words::which(
+        b"judge whole extended rest template point step write write-template thousandths place",
+        b' ',
+        name,
+    )
+}
+
+// The answer to a line. Its first word names the question.
+pub fn answer(text: &mut [u8; 65536], used: u16, line: &[u8]) -> u16 {
+    let span = words::next(line, b' ', 0);
+    let question = question_of(words::part(line, span.from, span.to));
+    match question {
+        JUDGE..=TEMPLATE => of_bytes(text, used, question, 0, line, span.to),
+        POINT..=STEP => of_number_and_bytes(text, used, question, line, span.to),
+        WRITE => writing::write(text, used, line, span.to),
+        WRITE_TEMPLATE => writing::write_template(text, used, line, span.to),
+        THOUSANDTHS => thousandths::raw(text, used, line, span.to),
+        PLACE => thousandths::place(text, used, line, span.to),
+        _ => answers::cannot(text, used, answers::NO_SUCH_QUESTION),
+    }
+}
+
+// A number that any 64 bits may be, and then bytes.
+fn of_number_and_bytes(
+    text: &mut [u8; 65536],
+    used: u16,
+    question: usize,
+    line: &[u8],
+    at: usize,
+) -> u16 {
+    let number = words::numbers::natural_at(line, at, 18446744073709551615);
+    if number.reason != words::NO_REASON {
+        return answers::cannot(text, used, number.reason);
+    }
+    of_bytes(
+        text,
+        used,
+        question,
+        number.value as usize,
+        line,
+        number.behind,
+    )
+}
+
+fn rest_of(line: &[u8], at: usize, space: &mut [u8; 131072]) -> Amount {
+    words::hex::bytes_in(words::part(line, at, line.len()), space)
+}
+
+// The first bytes of some that were lent.
+pub(crate) fn lent<'a>(space: &'a [u8; 131072], count: usize) -> &'a [u8] {
+    words::part(space, 0, count)
+}
+
+// The bytes that the rest of a line says. A line says at most half as many bytes as it has.
+fn of_bytes(
+    text: &mut [u8; 65536],
+    used: u16,
+    question: usize,
+    index: usize,
+    line: &[u8],
+    at: usize,
+) -> u16 {
+    let mut space = [0; 131072];
+    let amount = rest_of(line, at, &mut space);
+    if !amount.good {
+        return answers::cannot(text, used, words::NOT_BYTES);
+    }
+    ask(text, used, question, index, lent(&space, amount.count))
+}
+
+// What is asked of bytes; of a point its index is told, and of a step its place.
+fn ask(text: &mut [u8; 65536], used: u16, question: usize, index: usize, bytes: &[u8]) -> u16 {
+    match question {
+        JUDGE..=WHOLE => judge(text, used, bytes, question == WHOLE),
+        EXTENDED => put_bytes(text, used, records::extended(bytes)),
+        REST => put_bytes(text, used, records::rest(bytes)),
+        POINT => point(text, used, bytes, index),
+        STEP => step(text, used, bytes, index),
+        _ => template(text, used, bytes),
+    }
+}
+
+// Where there is no record the description says nothing of any channel, and no word of it is put.
+fn judge(text: &mut [u8; 65536], start: u16, bytes: &[u8], whole: bool) -> u16 {
+    let judged = if whole {
+        records::judge_whole(bytes)
+    } else {
+        records::judge(bytes)
+    };
+    let verdict = judged.verdict;
+    let used = answers::put(text, start, answers::of_verdict(verdict));
+    sayings::put_description(text, used, judged.description)
+}
+
+fn put_bytes(text: &mut [u8; 65536], start: u16, bytes: &[u8]) -> u16 {
+    let used = texts::put_bytes(text, start, b"bytes ");
+    texts::put_hex(text, used, bytes)
+}
+
+fn point(text: &mut [u8; 65536], start: u16, bytes: &[u8], index: usize) -> u16 {
+    let pointed = records::judge_point(bytes, index);
+    let used = answers::put(text, start, answers::of_pointed(pointed));
+    if let Pointed::Point = pointed {
+        return answers::put_places(text, used, records::point(bytes, index));
+    }
+    used
+}
+
+fn step(text: &mut [u8; 65536], start: u16, file: &[u8], place: usize) -> u16 {
+    let step = walks::step_at(file, place);
+    let found = step.found;
+    let used = answers::put(text, start, answers::of_found(found));
+    let used = texts::put_bytes(text, used, b" next");
+    texts::put_field(text, used, step.next as u64)
+}
+
+// The template that the bytes are, its maximum first, since a description has any number of words.
+fn template(text: &mut [u8; 65536], start: u16, bytes: &[u8]) -> u16 {
+    let judged = templates::read(bytes);
+    let verdict = judged.verdict;
+    match verdict {
+        Judgement::Passed => put_template(text, start, judged.template),
+        Judgement::Refused(refusal) => answers::put(text, start, answers::of_refusal(refusal)),
+    }
+}
+
+// Where a template has no description, `!` says so; the description says nothing then, and no word of it is put.
+fn put_template(text: &mut [u8; 65536], start: u16, template: templates::Template) -> u16 {
+    let described = template.described;
+    let description = template.description;
+    let maximum = answers::of_maximum(template.limited, template.maximum);
+    let used = answers::put(text, start, maximum);
+    if described {
+        return sayings::put_description(text, used, description);
+    }
+    answers::put_last(text, used, answers::NONE)
+}

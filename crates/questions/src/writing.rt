@@ -1,0 +1,120 @@
+// The questions that write: a record, and a template.
+ghost use Prim.Native.Nat.{_≤_};
+use answers::Answer;
+use channels::Description;
+use sayings::fields::Template;
+use sayings::fields::Wanted;
+
+// The first of some values.
+fn first<'a>(values: &'a [i32; 131072], count: usize) -> &'a [i32] {
+    let all: &[i32] = values;
+    if 131072 < count {
+        return &all[0..0];
+    }
+    &all[0..count]
+}
+
+// What `record_at` reads, and channels.
+pub(crate) fn write(text: &mut [u8; 65536], used: u16, line: &[u8], at: usize) -> u16 {
+    let mut values = [0; 131072];
+    let mut space = [0; 131072];
+    let wanted = sayings::fields::record_at(line, at, &mut values, &mut space);
+    let reason = sayings::fields::first_of(wanted.reason, sayings::reason_at(line, wanted.behind));
+    if reason != words::NO_REASON {
+        return answers::cannot(text, used, reason);
+    }
+    write_record(
+        text,
+        used,
+        sayings::description_at(line, wanted.behind),
+        wanted,
+        first(&values, wanted.given),
+        crate::lent(&space, wanted.lent),
+    )
+}
+
+fn write_record(
+    text: &mut [u8; 65536],
+    used: u16,
+    description: Description,
+    wanted: Wanted,
+    values: &[i32],
+    extended: &[u8],
+) -> u16
+    requires { ⌜ wanted .room ≤ 131072 ⌝ }
+{
+    let mut out = [170; 131072];
+    let room = wanted.room;
+    let written = record_writing::write(
+        description,
+        wanted.count,
+        values,
+        wanted.extended,
+        extended,
+        &mut out[0..room],
+    );
+    put(text, used, of_written(written), &out, room)
+}
+
+fn done(length: usize) -> Answer {
+    answers::plain(answers::WRITTEN, 1, length as u64)
+}
+
+fn of_written(written: record_writing::Written) -> Answer {
+    match written {
+        record_writing::Written::Record { length } => done(length),
+        record_writing::Written::Refused(refusal) => answers::of_refusal(refusal),
+    }
+}
+
+// What was written or why not, and all the bytes that were lent.
+fn put(text: &mut [u8; 65536], start: u16, answer: Answer, out: &[u8; 131072], room: usize) -> u16 {
+    let used = answers::put(text, start, answer);
+    let used = texts::put(text, used, b' ');
+    texts::put_hex(text, used, words::part(out, 0, room))
+}
+
+// What `template_at` reads, and channels.
+pub(crate) fn write_template(text: &mut [u8; 65536], used: u16, line: &[u8], at: usize) -> u16 {
+    let template = sayings::fields::template_at(line, at);
+    let reason = sayings::fields::first_of(
+        template.reason,
+        sayings::reason_at(line, template.behind),
+    );
+    if reason != words::NO_REASON {
+        return answers::cannot(text, used, reason);
+    }
+    write_described(
+        text,
+        used,
+        sayings::description_at(line, template.behind),
+        template,
+    )
+}
+
+fn write_described(
+    text: &mut [u8; 65536],
+    used: u16,
+    description: Description,
+    template: Template,
+) -> u16
+    requires { ⌜ template .room ≤ 131072 ⌝ }
+{
+    let mut out = [170; 131072];
+    let room = template.room;
+    let written = template_writing::write(
+        template.described,
+        description,
+        template.limited,
+        template.maximum,
+        &mut out[0..room],
+    );
+    put(text, used, of_template(written), &out, room)
+}
+
+fn of_template(written: template_writing::Written) -> Answer {
+    match written {
+        template_writing::Written::Done(length) => done(length),
+        template_writing::Written::Refused(refusal) => answers::of_refusal(refusal),
+    }
+}

@@ -1,0 +1,70 @@
+-- Writing a full record: what keeps one from being written, stage by stage, and what becomes of the bytes that a writer is lent.
+use mathlib.Core.Path.{_≡_}
+use mathlib.Core.Bool.{Bool, cond, not, _&&_}
+use mathlib.Core.List.{List, [], _∷_, _++_}
+use mathlib.Core.Option.{none, some}
+use Prim.Native.Nat.{ℕ, _<_}
+use lib.Dec.{T, ltb, leb}
+use lib.IntN.{ℤ}
+use lib.ListN.{length}
+use Rattle.formats.specs.Put.{puts}
+use Rattle.formats.specs.Number.{digits}
+use Rattle.formats.specs.Lent.{Writing, writing}
+use Rattle.refusals.specs.Stages.{require, orElse, stages}
+use Rattle.refusals.specs.declared.Quantity.the-variants as quantity
+use Rattle.refusals.specs.declared.Refusal.the-variants.{OutOfRange, ExtendedSize, Room}
+use Rattle.refusals.specs.declared.Judgement.{Judgement}
+use Rattle.refusals.specs.declared.Judgement.the-variants as judgement
+use Rattle.channels.specs.declared.Description.{Description}
+use Rattle.description_writing.specs.Write as described
+use Rattle.values.specs.Values as values
+use Rattle.values.specs.Values.{size, pointsOf}
+use Rattle.values.specs.declared.Order.the-variants.{Point}
+use Rattle.records.specs.Record.{Record, identifierBytes, versionBytes, stored, encode}
+use Rattle.record_writing.specs.declared.Written.{Written}
+use Rattle.record_writing.specs.declared.Written.the-variants as written
+
+-- the record that a writer is asked for: numbers in stored order, point by point; extended data only where they are wanted
+unfoldable pub recordOf : Description → (count : ℕ) (numbers : List ℤ) (wanted : Bool) (extended : List ℕ) → Record
+recordOf d count numbers wanted extended =
+    record { description = d; points = pointsOf Point count (size (stored d)) numbers; extended = cond wanted (some extended) none }
+
+-- three bytes hold the count, and two the length of extended data that are wanted
+abbrev pub countStage : (count : ℕ) → Judgement
+countStage count = require (not (ltb 16777215 count)) (OutOfRange quantity.Count)
+
+abbrev pub extendedStage : (wanted : Bool) (extended : List ℕ) → Judgement
+extendedStage wanted extended = require (not (wanted && ltb 65535 (length extended))) ExtendedSize
+
+-- the stages behind the description's, in their order: the count, the amount of numbers and the numbers, the extended data
+unfoldable pub numbersJudged : Description → (count : ℕ) (numbers : List ℤ) (wanted : Bool) (extended : List ℕ) → Judgement
+numbersJudged d count numbers wanted extended =
+    stages (countStage count ∷ values.judgementOf 2 (stored d) Point count numbers ∷ extendedStage wanted extended ∷ [])
+
+-- the description's own stages come first
+unfoldable pub judgementOf : Description → (count : ℕ) (numbers : List ℤ) (wanted : Bool) (extended : List ℕ) → Judgement
+judgementOf d count numbers wanted extended = orElse (described.judgementOf 2 d) (numbersJudged d count numbers wanted extended)
+
+-- a record that passes is put at the start where there is room for it; else the bytes stay as they were
+unfoldable pub putWhere : Record → (out : List ℕ) → Judgement → Writing Written
+putWhere r out judgement.Passed =
+    cond (leb (length (encode r)) (length out)) (writing (written.Record (length (encode r))) (puts out 0 (encode r))) (writing (written.Refused Room) out)
+putWhere r out (judgement.Refused refusal) = writing (written.Refused refusal) out
+
+unfoldable pub writeOf : Description → (count : ℕ) (numbers : List ℤ) (wanted : Bool) (extended : List ℕ) (out : List ℕ) → Writing Written
+writeOf d count numbers wanted extended out = putWhere (recordOf d count numbers wanted extended) out (judgementOf d count numbers wanted extended)
+
+-- ---- The parts, as they are put one behind the other
+
+unfoldable pub openingBytes : (wanted : Bool) (count : ℕ) → List ℕ
+openingBytes wanted count = 0x00 ∷ cond wanted 0x80 0x00 ∷ digits 3 count
+
+unfoldable pub frontBytes : (described : List ℕ) (wanted : Bool) (count : ℕ) → List ℕ
+frontBytes described wanted count = identifierBytes ++ versionBytes ++ described ++ openingBytes wanted count
+
+-- what holds of a record that passed every stage but the room
+pub record Passes (d : Description) (count : ℕ) (numbers : List ℤ) (wanted : Bool) (extended : List ℕ) : Type 0 where
+  pub described : described.judgementOf 2 d ≡ judgement.Passed
+  pub counted : count < 16777216
+  pub fitting : values.judgementOf 2 (stored d) Point count numbers ≡ judgement.Passed
+  pub small : T wanted → length extended < 65536

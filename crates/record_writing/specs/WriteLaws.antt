@@ -1,0 +1,127 @@
+-- What passes every stage is a valid record, and its bytes are its parts one behind the other.
+use mathlib.Core.Path.{_≡_, refl, sym, ap, _∙_}
+use mathlib.Core.Bool.{Bool, true, false, cond, not, _&&_}
+use mathlib.Core.List.{List, [], _∷_, _++_, flatMap, append-assoc}
+use mathlib.Core.Option.{Option, none, some}
+use Prim.Native.Nat.{ℕ, _+_, _*_, _<_}
+use native.Mathlib.Omega.{arith}
+use borrow.Author.Tests.{not-true, ltb-false, lt-ltb, le-ltb}
+use lib.Dec.{T, ltb}
+use lib.IntN.{ℤ}
+use lib.ListN.{length, length-append}
+use Rattle.formats.specs.Bytes.{Bytes}
+use Rattle.formats.specs.Number.{digits, length-digits}
+use Rattle.refusals.specs.Stages.{require, orElse, stages, require-passed, or-else-passed, stages-passed}
+use Rattle.refusals.specs.declared.Quantity.the-variants as quantity
+use Rattle.refusals.specs.declared.Refusal.{Refusal}
+use Rattle.refusals.specs.declared.Refusal.the-variants.{OutOfRange, ExtendedSize}
+use Rattle.refusals.specs.declared.Judgement.the-variants.{Passed, Refused}
+use Rattle.channels.specs.declared.Description.{Description}
+use Rattle.points.specs.Points.{width, encodePoint}
+use Rattle.values.specs.Values as values
+use Rattle.values.specs.Values.{size, pointsOf}
+use Rattle.values.specs.OrderLaws.{points-many, fits-valid, fits-length}
+use Rattle.values.specs.declared.Order.the-variants.{Point}
+use Rattle.descriptions.specs.Description.{encodeDescription}
+use Rattle.description_writing.specs.Write as described
+use Rattle.description_writing.specs.WriteLaws.{passed-valid}
+use Rattle.records.specs.Record.{Record, identifierBytes, versionBytes, stored, openingByte, encodeExtended, encode, ValidExtended, Valid}
+use Rattle.record_writing.specs.Write.{recordOf, countStage, extendedStage, numbersJudged, judgementOf, openingBytes, frontBytes, Passes}
+
+-- ---- The record
+
+regroup : (i v d z o n r x : List ℕ) → (i ++ v ++ d ++ z) ++ o ++ n ++ r ++ x ≡ (i ++ v ++ d ++ (z ++ (o ++ n))) ++ (r ++ x)
+regroup i v d z o n r x = simp append-assoc
+
+fits-length-of : (wanted : Bool) (extended : List ℕ) → (T wanted → length extended < 65536) → (wanted && ltb 65535 (length extended)) ≡ false
+fits-length-of true extended h = le-ltb 65535 (length extended) (omega (arith, h tt))
+fits-length-of false extended h = refl
+
+extended-valid : (wanted : Bool) (extended : List ℕ) → (T wanted → length extended < 65536) → Bytes extended → ValidExtended (cond wanted (some extended) none)
+unfolding ValidExtended
+extended-valid true extended h g = (omega (arith, h tt), g)
+extended-valid false extended h g = tt
+
+opened : (wanted : Bool) (extended : List ℕ) → openingByte (cond wanted (some extended) none) ≡ cond wanted 0x80 0x00
+unfolding openingByte
+opened true extended = refl
+opened false extended = refl
+
+module _ (d : Description) (count : ℕ) (numbers : List ℤ) (wanted : Bool) (extended : List ℕ) where
+  abbrev extra : Option (List ℕ)
+  extra = cond wanted (some extended) none
+
+  abbrev row : List ℕ
+  row = flatMap (encodePoint 2 (stored d)) (pointsOf Point count (size (stored d)) numbers)
+
+  -- its bytes, part by part
+  pub in-parts : encode (recordOf d count numbers wanted extended) ≡ frontBytes (encodeDescription 2 d) wanted count ++ (row ++ encodeExtended extra)
+  unfolding encode recordOf frontBytes openingBytes
+  in-parts = rw (points-many Point count (size (stored d)) numbers, opened wanted extended)
+      (regroup identifierBytes versionBytes (encodeDescription 2 d) (0x00 ∷ []) (cond wanted 0x80 0x00 ∷ []) (digits 3 count) row (encodeExtended extra))
+
+  -- its length
+  pub record-length : values.judgementOf 2 (stored d) Point count numbers ≡ Passed
+      → length (encodeDescription 2 d) + count * width 2 (stored d) + length (encodeExtended extra) + 13 ≡ length (encode (recordOf d count numbers wanted extended))
+  unfolding frontBytes openingBytes
+  record-length e =
+      sym
+      (ap length in-parts
+      ∙ simp length-append (omega (arith, fits-length 2 (stored d) Point count numbers e, length-digits 3 count)))
+
+  -- and it is valid
+  pub passes-valid : Passes d count numbers wanted extended → length (d .channels) ≡ 16 → Bytes extended → Valid (recordOf d count numbers wanted extended)
+  unfolding recordOf
+  passes-valid p h g = record {
+    description = passed-valid 2 d (p .described) h;
+    count = omega (arith, points-many Point count (size (stored d)) numbers, p .counted);
+    points = fits-valid 2 (stored d) Point count numbers (p .fitting) .1;
+    extended = extended-valid wanted extended (p .small) g;
+  }
+
+  -- ---- The stages
+
+  not-long : (wanted : Bool) → (wanted && ltb 65535 (length extended)) ≡ false → T wanted → length extended < 65536
+  not-long true e h = omega (arith, ltb-false 65535 (length extended) e)
+  not-long false e h = absurd h
+
+  -- what passes them all
+  pub passes : judgementOf d count numbers wanted extended ≡ Passed → Passes d count numbers wanted extended
+  unfolding judgementOf numbersJudged
+  passes e =
+      let x = or-else-passed (described.judgementOf 2 d) (numbersJudged d count numbers wanted extended) e in
+      let y = stages-passed (countStage count ∷ values.judgementOf 2 (stored d) Point count numbers ∷ extendedStage wanted extended ∷ []) (x .1) in
+      record {
+        described = x .0;
+        counted = omega (arith, ltb-false 16777215 count (not-true _ (require-passed _ _ (y .0))));
+        fitting = y .1 .0;
+        small = not-long wanted (not-true _ (require-passed _ _ (y .1 .1 .0)));
+      }
+
+  -- and the other way round
+  pub passing : Passes d count numbers wanted extended → judgementOf d count numbers wanted extended ≡ Passed
+  unfolding judgementOf numbersJudged orElse stages require
+  passing p = rw (p .described, le-ltb 16777215 count (omega (arith, p .counted)), p .fitting, fits-length-of wanted extended (p .small))
+
+  -- ---- Each stage behind the description's, by its test
+
+  module _ (counted : count < 16777216) where
+    within : ltb 16777215 count ≡ false
+    within = le-ltb 16777215 count (omega arith)
+
+    pub at-values : {refusal : Refusal} → values.judgementOf 2 (stored d) Point count numbers ≡ Refused refusal → numbersJudged d count numbers wanted extended ≡ Refused refusal
+    unfolding numbersJudged orElse stages require
+    at-values h = rw (within, h)
+
+    module _ (fit : values.judgementOf 2 (stored d) Point count numbers ≡ Passed) where
+      pub at-extended : wanted ≡ true → 65535 < length extended → numbersJudged d count numbers wanted extended ≡ Refused ExtendedSize
+      unfolding numbersJudged orElse stages require
+      at-extended e h = rw (within, fit, e, lt-ltb 65535 (length extended) h)
+
+      pub at-last : (T wanted → length extended < 65536) → numbersJudged d count numbers wanted extended ≡ Passed
+      unfolding numbersJudged orElse stages require
+      at-last h = rw (within, fit, fits-length-of wanted extended h)
+
+  pub at-count : 16777215 < count → numbersJudged d count numbers wanted extended ≡ Refused (OutOfRange quantity.Count)
+  unfolding numbersJudged orElse stages require
+  at-count h = rw (lt-ltb 16777215 count h)

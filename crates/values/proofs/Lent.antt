@@ -1,0 +1,269 @@
+-- What is left to judge and to put of a point, and of many points, when some of it is done; and that their numbers are among the values.
+use mathlib.Core.Path.{_≡_, refl, sym, ap, ap₂, _∙_}
+use mathlib.Core.Bool.{Bool, true, false, cond, _&&_}
+use mathlib.Core.List.{List, [], _∷_, _++_, flatMap}
+use Prim.Native.Nat.{ℕ, zero, suc, _+_, _-_, _*_, _≤_, _<_}
+use native.Mathlib.Nat.{mul-le-mul-right, mul-comm}
+use native.Mathlib.Omega.{arith}
+use borrow.Author.Tests.{ne-eqb, eq-eqb, eqb-true, le-leb, lt-leb}
+use lib.Dec.{eqb, leb}
+use lib.IntN.{ℤ, pos}
+use lib.ListN.{length, getD, drop}
+use Rattle.formats.specs.Bytes.{impossible}
+use Rattle.formats.specs.Number.{digits}
+use Rattle.formats.specs.Writes.{encodeEach}
+use Rattle.formats.specs.Put.{puts}
+use Rattle.formats.specs.Lent.{Writing, writing}
+use Rattle.formats.specs.Laid.{Room, Laid, Owed, laid-none}
+use Rattle.refusals.specs.Stages.{require, orElse}
+use Rattle.refusals.specs.declared.Quantity.the-variants.{Value}
+use Rattle.refusals.specs.declared.Refusal.the-variants.{OutOfRange, Amount}
+use Rattle.refusals.specs.declared.Judgement.{Judgement}
+use Rattle.refusals.specs.declared.Judgement.the-variants.{Passed, Refused}
+use Rattle.channels.specs.Channel.{S, signs, signedOf}
+use Rattle.channels.specs.Stored.{fits, storedOf, storedIf}
+use Rattle.channels.specs.Switch.{isState, byteOf, byteIf}
+use Rattle.channels.specs.declared.Stored.the-variants.{Number, Outside}
+use Rattle.points.specs.Points.{storedFrom, channels, fitsSample, width}
+use Rattle.values.specs.Values.{size, step, stride, numbersFrom, pointsFrom, pointsOf, judgePoint, judgeFrom, judgementOf, storedSample, numberIn, sampleBytes, bytesOf, putOf}
+use Rattle.values.specs.OrderLaws.{points-bytes}
+use Rattle.values.specs.Parts.{AllAt, Inside, pointBytes, pointsBytes, many, bytesLeft}
+use Rattle.values.specs.declared.Order.{Order}
+use Rattle.values.specs.declared.Order.the-variants.{Point, Column}
+use Rattle.points.proofs.Samples.{stored-in, stored-out, stored-none}
+
+-- ---- One number
+
+-- the sign that a loop over channels is lent
+pub sign-lent : (l : List Bool) → l ≡ signs → (channel : ℕ) → getD l channel false ≡ signedOf channel
+unfolding signedOf
+sign-lent l e channel = ap (λ x. getD x channel false) e
+
+module _ (w channel : ℕ) (v : ℤ) where
+  pub stored-switch : channel ≡ S → storedSample w channel v ≡ byteIf v
+  unfolding storedSample
+  stored-switch e = rw (eq-eqb channel S e)
+
+  pub stored-other : (channel ≡ S → ⊥) → storedSample w channel v ≡ storedIf w (signedOf channel) v
+  unfolding storedSample
+  stored-other e = rw (ne-eqb channel S e)
+
+  -- what is stored says whether it fits
+  pub fits-number : {n : ℕ} → storedSample w channel v ≡ Number n → fitsSample w channel v ≡ true
+  unfolding storedSample fitsSample byteIf storedIf
+  fits-number {n} e = go (eqb channel S) (isState v) (fits w (signedOf channel) v) e
+    where
+      go : (t a b : Bool) → cond t (cond a (Number (byteOf v)) Outside) (cond b (Number (storedOf w (signedOf channel) v)) Outside) ≡ Number n → cond t a b ≡ true
+      go true true b q = refl
+      go true false b q = impossible (cc)
+      go false a true q = refl
+      go false a false q = impossible (cc)
+
+  pub fits-outside : storedSample w channel v ≡ Outside → fitsSample w channel v ≡ false
+  unfolding storedSample fitsSample byteIf storedIf
+  fits-outside e = go (eqb channel S) (isState v) (fits w (signedOf channel) v) e
+    where
+      go : (t a b : Bool) → cond t (cond a (Number (byteOf v)) Outside) (cond b (Number (storedOf w (signedOf channel) v)) Outside) ≡ Outside → cond t a b ≡ false
+      go true true b q = impossible (cc)
+      go true false b q = refl
+      go false a true q = impossible (cc)
+      go false a false q = refl
+
+  -- and its bytes
+  pub bytes-switch : channel ≡ S → sampleBytes w channel v ≡ digits 1 (numberIn (storedSample w channel v))
+  unfolding sampleBytes
+  bytes-switch e = ap (λ t. digits (cond t 1 w) (numberIn (storedSample w channel v))) (eq-eqb channel S e)
+
+  pub bytes-other : (channel ≡ S → ⊥) → sampleBytes w channel v ≡ digits w (numberIn (storedSample w channel v))
+  unfolding sampleBytes
+  bytes-other e = ap (λ t. digits (cond t 1 w) (numberIn (storedSample w channel v))) (ne-eqb channel S e)
+
+-- ---- Indices a stride apart
+
+module _ (P : ℕ → Type 0) (d k m from : ℕ) (all : AllAt P d k from) (e : k ≡ 1 + m) where
+  pub all-first : P from
+  all-first = let z : from + 0 * d ≡ from = omega arith in rw z at (all 0 (omega arith))
+
+  pub all-next : AllAt P d m (from + d)
+  all-next r h = let z : from + suc r * d ≡ from + d + r * d = omega arith in rw z at (all (suc r) (omega arith))
+
+pub all-same : (P : ℕ → Type 0) (d k m from : ℕ) → AllAt P d k from → k ≡ m → AllAt P d m from
+all-same P d k m from all e r h = all r (omega arith)
+
+-- the numbers of as many points as the amount says are among the values
+module _ (count k : ℕ) (values : List ℤ) (amount : length values ≡ count * k) where
+  pub points-inside : (order : Order) → AllAt (Inside values (stride order count) k) (step order k) count 0
+  unfolding step stride
+  points-inside Point i h r g = omega (arith, amount, mul-le-mul-right {m = suc i} {n = count} k (omega arith))
+  points-inside Column i h r g = omega (arith, amount, mul-comm count k, mul-le-mul-right {m = suc r} {n = k} count (omega arith))
+
+  pub stride-within : (order : Order) → 0 < k → stride order count ≤ length values + 1
+  unfolding stride
+  stride-within Point h = omega arith
+  stride-within Column h = omega (arith, amount, mul-comm count k, mul-le-mul-right {m = 1} {n = k} count (omega arith))
+
+pub step-within : (k : ℕ) → 0 < k → k ≤ 16 → (order : Order) → step order k ≤ 16
+unfolding step
+step-within k g h Point = h
+step-within k g h Column = omega arith
+
+-- so a step p and a stride d may be taken
+pub record Ready (values : List ℤ) (k count p d : ℕ) : Type 0 where
+  pub stride : d ≤ length values + 1
+  pub step : p ≤ 16
+  pub some : 0 < k
+  pub inside : AllAt (Inside values d k) p count 0
+
+pub ready : (values : List ℤ) (order : Order) (count k n : ℕ) → eqb (length values) (count * k) ≡ true → n ≡ k → (n ≡ 0 → ⊥) → n ≤ 16 → {p d : ℕ} → p ≡ step order n → d ≡ stride order count → Ready values k count p d
+ready values order count k n e same some small x y =
+    let a = eqb-true (length values) (count * k) e in
+    let q : 0 < k = omega arith in
+    rw (x, y, same) (record { stride = stride-within count k values a order q; step = step-within k q (omega arith) order; some = q; inside = points-inside count k values a order })
+
+-- ---- A point: the channels from i on, and the numbers from an index on
+
+-- how many are left
+module _ (stored : List Bool) where
+  module _ (i : ℕ) (h : i < length stored) where
+    pub many-out : getD stored i false ≡ false → many stored i ≡ many stored (i + 1)
+    unfolding many
+    many-out e = rw (stored-out stored i h e)
+
+    pub many-in : getD stored i false ≡ true → many stored i ≡ 1 + many stored (i + 1)
+    unfolding many
+    many-in e = rw (stored-in stored i h e) (omega arith)
+
+  pub many-none : (i : ℕ) → length stored ≤ i → many stored i ≡ 0
+  unfolding many
+  many-none i h = rw (stored-none stored i h)
+
+module _ (w d : ℕ) (stored : List Bool) (values : List ℤ) where
+  -- how they are judged
+  unfoldable pub judgeLeft : ℕ → ℕ → Judgement
+  judgeLeft i at = judgePoint w d (storedFrom i (drop i stored)) values at
+
+  -- a channel that isn't stored is passed
+  module _ (i at : ℕ) (h : i < length stored) (e : getD stored i false ≡ false) where
+    pub pass-judged : judgeLeft i at ≡ judgeLeft (i + 1) at
+    unfolding judgeLeft
+    pass-judged = rw (stored-out stored i h e)
+
+    pub pass-bytes : bytesLeft w d stored values i at ≡ bytesLeft w d stored values (i + 1) at
+    unfolding bytesLeft
+    pass-bytes = rw (stored-out stored i h e)
+
+  -- a channel that is stored takes a number
+  module _ (i at : ℕ) (h : i < length stored) (e : getD stored i false ≡ true) where
+    pub take-judged : judgeLeft i at ≡ orElse (require (fitsSample w i (getD values at (pos 0))) (OutOfRange (Value at i))) (judgeLeft (i + 1) (at + d))
+    unfolding judgeLeft judgePoint
+    take-judged = rw (stored-in stored i h e)
+
+    pub take-bytes : bytesLeft w d stored values i at ≡ sampleBytes w i (getD values at (pos 0)) ++ bytesLeft w d stored values (i + 1) (at + d)
+    unfolding bytesLeft pointBytes encodeEach numbersFrom
+    take-bytes = rw (stored-in stored i h e)
+
+  pub judged-none : (i at : ℕ) → length stored ≤ i → judgeLeft i at ≡ Passed
+  unfolding judgeLeft judgePoint
+  judged-none i at h = rw (stored-none stored i h)
+
+  pub bytes-none : (i at : ℕ) → length stored ≤ i → bytesLeft w d stored values i at ≡ []
+  unfolding bytesLeft pointBytes encodeEach
+  bytes-none i at h = rw (stored-none stored i h)
+
+-- what a run of channels leaves is left of what was to be laid before it
+pub owed-run : {s : List ℕ} {start : ℕ} {b t : List ℕ} {at : ℕ} {c u : List ℕ} {n : ℕ} {e : List ℕ} → Owed s start b t at c → Owed t at c u n e → Owed s start b u n e
+owed-run o p = record { place = o .place ∙ p .place; bytes = o .bytes ∙ p .bytes; kept = p .kept ∙ o .kept }
+
+-- ---- Many points: those from i on, and the numbers from an index on
+
+module _ (w d : ℕ) (l : List ℕ) (values : List ℤ) (p n i from : ℕ) (h : i < n) where
+  count : n - i ≡ suc (n - (i + 1))
+  count = omega arith
+
+  pub next-judged : judgeFrom w d l values p (n - i) from ≡ orElse (judgePoint w d l values from) (judgeFrom w d l values p (n - (i + 1)) (from + p))
+  unfolding judgeFrom
+  next-judged = rw count
+
+  pub next-bytes : pointsBytes w d l values p (n - i) from ≡ pointBytes w d l values from ++ pointsBytes w d l values p (n - (i + 1)) (from + p)
+  unfolding pointsBytes pointBytes pointsFrom flatMap
+  next-bytes = rw count
+
+module _ (w d : ℕ) (l : List ℕ) (values : List ℤ) (p n i from : ℕ) (h : n ≤ i) where
+  over : n - i ≡ 0
+  over = omega arith
+
+  pub last-judged : judgeFrom w d l values p (n - i) from ≡ Passed
+  unfolding judgeFrom
+  last-judged = rw over
+
+  pub last-bytes : pointsBytes w d l values p (n - i) from ≡ []
+  unfolding pointsBytes pointsFrom flatMap
+  last-bytes = rw over
+
+-- ---- The stages
+
+no-numbers : (l : List ℕ) → length l ≡ 0 → l ≡ []
+no-numbers [] e = refl
+no-numbers (channel ∷ l) e = absurd (omega arith)
+
+nothing-judged : (w d : ℕ) (values : List ℤ) (p n from : ℕ) → judgeFrom w d [] values p n from ≡ Passed
+unfolding judgeFrom judgePoint orElse
+nothing-judged w d values p zero from = refl
+nothing-judged w d values p (suc n) from = nothing-judged w d values p n (from + p)
+
+nothing-put : (w d : ℕ) (values : List ℤ) (p n from : ℕ) → pointsBytes w d [] values p n from ≡ []
+unfolding pointsBytes pointsFrom flatMap encodeEach
+nothing-put w d values p zero from = refl
+nothing-put w d values p (suc n) from = nothing-put w d values p n (from + p)
+
+module _ (w : ℕ) (stored : List Bool) (order : Order) (count : ℕ) (values : List ℤ) where
+  abbrev amount : Bool
+  amount = eqb (length values) (count * size stored)
+
+  abbrev judgement : Judgement
+  judgement = judgementOf w stored order count values
+
+  pub other-amount : amount ≡ false → judgement ≡ Refused Amount
+  unfolding judgementOf orElse require
+  other-amount e = rw e
+
+  pub same-amount : amount ≡ true → judgement ≡ judgeFrom w (stride order count) (channels stored) values (step order (size stored)) count 0
+  unfolding judgementOf orElse require
+  same-amount e = rw e
+
+  pub no-values : amount ≡ true → size stored ≡ 0 → judgement ≡ Passed
+  no-values e q = same-amount e ∙ rw (no-numbers (channels stored) q) (nothing-judged w (stride order count) values (step order 0) count 0)
+
+  module _ (out : List ℕ) (at : ℕ) where
+    abbrev put : Writing ℕ
+    put = putOf w stored order count values out at
+
+    abbrev all : List ℕ
+    all = pointsBytes w (stride order count) (channels stored) values (step order (size stored)) count 0
+
+    put-by : (a b : Bool) → amount ≡ a → leb (at + count * width w stored) (length out) ≡ b → put ≡ cond (a && b) (writing (at + count * width w stored) (puts out at all)) (writing at out)
+    unfolding putOf bytesOf pointsOf pointsBytes
+    put-by a b e q = ap₂ (λ x y. cond (x && y) (writing (at + count * width w stored) (puts out at all)) (writing at out)) e q
+
+    pub put-amount : amount ≡ false → put ≡ writing at out
+    put-amount e = put-by false _ e refl
+
+    pub put-room : amount ≡ true → length out < at + count * width w stored → put ≡ writing at out
+    put-room e h = put-by true false e (lt-leb (at + count * width w stored) (length out) h)
+
+    all-length : length all ≡ count * width w stored
+    unfolding pointsBytes width
+    all-length = points-bytes w values (stride order count) (channels stored) (step order (size stored)) count 0
+
+    module _ (e : amount ≡ true) (h : at + count * width w stored ≤ length out) where
+      pub all-room : Room out at all
+      all-room = record { enough = omega (arith, all-length) }
+
+      pub put-all : {t : List ℕ} {end : ℕ} → Laid out at all t end → writing end t ≡ put
+      put-all l = rw (l .place, l .bytes, all-length) (sym (put-by true true e (le-leb (at + count * width w stored) (length out) h)))
+
+      pub put-nothing : size stored ≡ 0 → put ≡ writing at out
+      unfolding puts
+      put-nothing q =
+          let z : all ≡ [] = rw (no-numbers (channels stored) q) (nothing-put w (stride order count) values (step order 0) count 0) in
+          sym (put-all (rw z (laid-none out at)))

@@ -1,0 +1,22 @@
+-- `values::step_of` meets its contract.
+use Rattle.values.specs.Values.{step}
+use borrow.Author.Needs.{needs}
+use Rattle.values.proofs.step_of.Statement.{statement}
+use Rattle.values.proofs.step_of.Tie as tie
+
+enum-told : tie.Need-enum-told
+enum-told c = search needs
+
+enum-told-2 : tie.Need-enum-told-2
+enum-told-2 c = search needs
+
+returns : tie.Need-returns
+unfolding step
+returns c = rw (c .enum-told .given .1)
+
+returns-2 : tie.Need-returns-2
+unfolding step
+returns-2 c = rw (c .enum-told2 .given .1)
+
+pub step-of-spec : {M : Type 1} → statement M
+step-of-spec = tie.close (tie.spec enum-told enum-told-2 returns returns-2)

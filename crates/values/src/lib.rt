@@ -1,0 +1,375 @@
+// Values of sample points as a writer is lent them, point by point or column by column: whether they fit, and their bytes.
+use channels::Format;
+use channels::Stored;
+use refusals::Judgement;
+use refusals::Quantity;
+use refusals::Refusal;
+ghost use mathlib.Core.Path.{_≡_};
+ghost use Prim.Native.Nat.{_+_, _*_, _≤_, _<_};
+ghost use lib.Dec.{eqb};
+ghost use lib.ListN.{length};
+ghost use Rattle.formats.specs.Number.{digits};
+ghost use Rattle.formats.specs.Laid.{Room, Laid, Owed};
+ghost use Rattle.formats.specs.Lent.{writing};
+ghost use Rattle.channels.specs.Channel.{signs as signTable, widthOf};
+ghost use Rattle.points.specs.Points.{channels as channelsOf};
+ghost use Rattle.values.specs.Values as lent;
+ghost use Rattle.values.specs.Values.{judgePoint, judgeFrom, judgementOf, storedSample, numberIn, sampleBytes, putOf};
+ghost use Rattle.values.specs.Parts.{AllAt, Inside, pointBytes, pointsBytes, many, bytesLeft};
+
+// How the values of points are lent: a point after the other, or a stored channel after the other.
+pub enum Order {
+    Point,
+    Column,
+}
+
+// How many numbers a sample point holds.
+pub fn size(stored: [bool; 16]) -> usize
+    ensures { λ r. ⌜ (r ≡ lent.size stored) × (r ≤ 16) ⌝ }
+{
+    let mut n: usize = 0;
+    let mut i: usize = 0;
+    while i < 16 {
+        if stored[i] {
+            n += 1;
+        }
+        i += 1;
+    }
+    n
+}
+
+// Whether values are as many as points of some size have.
+fn has_amount(values: &[i32], count: usize, size: usize) -> bool
+    ensures { λ r. ⌜ r ≡ eqb (length (now (values .entry))) (count * size) ⌝ }
+{
+    if !formats::is_within(count, size, values.len()) {
+        return false;
+    }
+    values.len() == count * size
+}
+
+// How far it is from a number to that of the next point.
+fn step_of(order: Order, size: usize) -> usize
+    ensures { λ r. ⌜ r ≡ lent.step order size ⌝ }
+{
+    match order {
+        Order::Point => size,
+        Order::Column => 1,
+    }
+}
+
+// How far it is from a number to that of the next stored channel.
+fn stride_of(order: Order, count: usize) -> usize
+    ensures { λ r. ⌜ r ≡ lent.stride order count ⌝ }
+{
+    match order {
+        Order::Point => 1,
+        Order::Column => count,
+    }
+}
+
+// What is stored for a number of a channel, if anything is.
+// This and each that follows is lent the table of signs, which is laid down once and not once a number.
+fn stored_sample(format: Format, channel: usize, value: i32, signs: &[bool; 16]) -> Stored
+    requires { ⌜ (channel < 16) × (now signs ≡ signTable) ⌝ }
+    ensures { λ r. ⌜ r ≡ storedSample (widthOf format) channel value ⌝ }
+{
+    if channel == channels::S {
+        return channels::byte_of(value);
+    }
+    channels::stored_of(format, signs[channel], value)
+}
+
+// Whether each number of a point fits: the first that doesn't is named, by its index among the values and its channel (refusal 12).
+// The numbers stand from an index on, a stride apart.
+fn judge_point(
+    values: &[i32],
+    from: usize,
+    stride: usize,
+    format: Format,
+    stored: &[bool; 16],
+    signs: &[bool; 16],
+) -> Judgement
+    requires { ⌜ (length (now stored) ≡ 16) × (now signs ≡ signTable) × (stride ≤ length (now values) + 1) × Inside (now values) stride (lent.size (now stored)) from ⌝ }
+    ensures { λ r. ⌜ r ≡ judgePoint (widthOf format) stride (channelsOf (now (stored .entry))) (now (values .entry)) from ⌝ }
+{
+    let mut index = from;
+    let mut channel: usize = 0;
+    while channel < 16 {
+        if stored[channel] {
+            let value = values[index];
+            match stored_sample(format, channel, value, signs) {
+                Stored::Number(_) => {}
+                Stored::Outside => {
+                    return Judgement::Refused(Refusal::OutOfRange {
+                        quantity: Quantity::Value {
+                            index: index,
+                            channel: channel,
+                        },
+                    });
+                }
+            }
+            index += stride;
+        }
+        channel += 1;
+    }
+    Judgement::Passed
+}
+
+// The same of many points, a step apart, that have numbers.
+fn judge_from(
+    values: &[i32],
+    count: usize,
+    step: usize,
+    stride: usize,
+    format: Format,
+    stored: &[bool; 16],
+    signs: &[bool; 16],
+) -> Judgement
+    requires { ⌜ (length (now stored) ≡ 16) × (now signs ≡ signTable) × (stride ≤ length (now values) + 1) × (step ≤ 16) × (0 < lent.size (now stored)) × AllAt (Inside (now values) stride (lent.size (now stored))) step count 0 ⌝ }
+    ensures { λ r. ⌜ r ≡ judgeFrom (widthOf format) stride (channelsOf (now (stored .entry))) (now (values .entry)) step count 0 ⌝ }
+{
+    let mut from: usize = 0;
+    let mut i: usize = 0;
+    while i < count {
+        let judged = judge_point(values, from, stride, format, stored, signs);
+        if let Judgement::Refused(_) = judged {
+            return judged;
+        }
+        from += step;
+        i += 1;
+    }
+    Judgement::Passed
+}
+
+// Whether the values of some points fit: their amount first (refusal 13), then each in point order, whatever the order that they are lent in.
+pub fn judge(
+    values: &[i32],
+    count: usize,
+    format: Format,
+    stored: [bool; 16],
+    order: Order,
+) -> Judgement
+    ensures { λ r. ⌜ r ≡ judgementOf (widthOf format) stored order count (now (values .entry)) ⌝ }
+{
+    let k = size(stored);
+    if !has_amount(values, count, k) {
+        return Judgement::Refused(Refusal::Amount);
+    }
+    if k == 0 {
+        return Judgement::Passed;
+    }
+    let step = step_of(order, k);
+    let stride = stride_of(order, count);
+    let signs = channels::signs();
+    judge_from(values, count, step, stride, format, &stored, &signs)
+}
+
+// A stored number is put, the high byte first; this and each that follows answers where the next goes.
+fn put_number(out: &mut [u8], at: usize, number: u16, format: Format) -> usize
+    requires { ⌜ Room (now out) at (digits (widthOf format) number) ⌝ }
+    ensures { λ r. ⌜ Laid (now (out .entry)) at (digits (widthOf format) number) (now (out .exit)) r ⌝ }
+{
+    match format {
+        Format::Full => {
+            out[at] = formats::high(number);
+            out[at + 1] = formats::low(number as u32);
+            at + 2
+        }
+        Format::Compact => {
+            out[at] = formats::low(number as u32);
+            at + 1
+        }
+    }
+}
+
+// The stored number, and 0 where there is none.
+fn number_in(stored: Stored) -> u16
+    ensures { λ r. ⌜ r ≡ numberIn stored ⌝ }
+{
+    match stored {
+        Stored::Number(number) => number,
+        Stored::Outside => 0,
+    }
+}
+
+// A number of a sample point is put: S in one byte, as a compact number is, any other as the format says.
+fn put_sample(
+    out: &mut [u8],
+    at: usize,
+    channel: usize,
+    value: i32,
+    format: Format,
+    signs: &[bool; 16],
+) -> usize
+    requires { ⌜ (channel < 16) × (now signs ≡ signTable) × Room (now out) at (sampleBytes (widthOf format) channel value) ⌝ }
+    ensures { λ r. ⌜ Laid (now (out .entry)) at (sampleBytes (widthOf format) channel value) (now (out .exit)) r ⌝ }
+{
+    let number = number_in(stored_sample(format, channel, value, signs));
+    if channel == channels::S {
+        return put_number(out, at, number, Format::Compact);
+    }
+    put_number(out, at, number, format)
+}
+
+// Where the next number is put, and which value it is.
+struct Run {
+    at: usize,
+    index: usize,
+}
+
+// The numbers of some channels of a sample point are put, from the first to the one before the last. They stand from an index on, a stride apart.
+fn put_run(
+    out: &mut [u8],
+    start: usize,
+    values: &[i32],
+    from: usize,
+    stride: usize,
+    format: Format,
+    stored: &[bool; 16],
+    signs: &[bool; 16],
+    first: usize,
+    last: usize,
+) -> Run
+    requires { ⌜ (length (now stored) ≡ 16) × (now signs ≡ signTable) × (stride ≤ length (now values) + 1) × Inside (now values) stride (many (now stored) first) from × Room (now out) start (bytesLeft (widthOf format) stride (now stored) (now values) first from) × (first ≤ last) × (last ≤ 16) ⌝ }
+    ensures { λ r. ⌜ Inside (now (values .entry)) stride (many (now (stored .entry)) last) (r .index) × Owed (now (out .entry)) start (bytesLeft (widthOf format) stride (now (stored .entry)) (now (values .entry)) first from) (now (out .exit)) (r .at) (bytesLeft (widthOf format) stride (now (stored .entry)) (now (values .entry)) last (r .index)) ⌝ }
+{
+    let mut at = start;
+    let mut index = from;
+    let mut channel: usize = first;
+    while channel < last {
+        if stored[channel] {
+            let value = values[index];
+            at = put_sample(out, at, channel, value, format, signs);
+            index += stride;
+        }
+        channel += 1;
+    }
+    Run {
+        at: at,
+        index: index,
+    }
+}
+
+// A sample point is put. Its numbers stand from an index on, a stride apart.
+// S has a run of its own: so no other number is asked whether it is one of S.
+fn put_point(
+    out: &mut [u8],
+    start: usize,
+    values: &[i32],
+    from: usize,
+    stride: usize,
+    format: Format,
+    stored: &[bool; 16],
+    signs: &[bool; 16],
+) -> usize
+    requires { ⌜ (length (now stored) ≡ 16) × (now signs ≡ signTable) × (stride ≤ length (now values) + 1) × Inside (now values) stride (lent.size (now stored)) from × Room (now out) start (pointBytes (widthOf format) stride (channelsOf (now stored)) (now values) from) ⌝ }
+    ensures { λ r. ⌜ Laid (now (out .entry)) start (pointBytes (widthOf format) stride (channelsOf (now (stored .entry))) (now (values .entry)) from) (now (out .exit)) r ⌝ }
+{
+    let before = put_run(
+        out,
+        start,
+        values,
+        from,
+        stride,
+        format,
+        stored,
+        signs,
+        0,
+        channels::S,
+    );
+    let switch = put_run(
+        out,
+        before.at,
+        values,
+        before.index,
+        stride,
+        format,
+        stored,
+        signs,
+        channels::S,
+        channels::TX,
+    );
+    let behind = put_run(
+        out,
+        switch.at,
+        values,
+        switch.index,
+        stride,
+        format,
+        stored,
+        signs,
+        channels::TX,
+        16,
+    );
+    behind.at
+}
+
+// Many points are put, a step apart, that have numbers.
+fn put_from(
+    out: &mut [u8],
+    start: usize,
+    values: &[i32],
+    count: usize,
+    step: usize,
+    stride: usize,
+    format: Format,
+    stored: &[bool; 16],
+    signs: &[bool; 16],
+) -> usize
+    requires { ⌜ (length (now stored) ≡ 16) × (now signs ≡ signTable) × (stride ≤ length (now values) + 1) × (step ≤ 16) × (0 < lent.size (now stored)) × AllAt (Inside (now values) stride (lent.size (now stored))) step count 0 × Room (now out) start (pointsBytes (widthOf format) stride (channelsOf (now stored)) (now values) step count 0) ⌝ }
+    ensures { λ r. ⌜ Laid (now (out .entry)) start (pointsBytes (widthOf format) stride (channelsOf (now (stored .entry))) (now (values .entry)) step count 0) (now (out .exit)) r ⌝ }
+{
+    let mut at = start;
+    let mut from: usize = 0;
+    let mut i: usize = 0;
+    while i < count {
+        at = put_point(out, at, values, from, stride, format, stored, signs);
+        from += step;
+        i += 1;
+    }
+    at
+}
+
+// Points are put from a place on, and where they end is answered. Where the values have another amount, or there is no room for all,
+// nothing is put and the place itself is answered. A number that doesn't fit, which `judge` tells, is put as zeros.
+pub fn put(
+    out: &mut [u8],
+    at: usize,
+    values: &[i32],
+    count: usize,
+    format: Format,
+    stored: [bool; 16],
+    order: Order,
+) -> usize
+    ensures { λ r. ⌜ writing r (now (out .exit)) ≡ putOf (widthOf format) stored order count (now (values .entry)) (now (out .entry)) at ⌝ }
+{
+    let k = size(stored);
+    if !has_amount(values, count, k) {
+        return at;
+    }
+    if out.len() < at {
+        return at;
+    }
+    let width = points::width(format, stored);
+    if !formats::is_within(count, width, out.len() - at) {
+        return at;
+    }
+    if k == 0 {
+        return at;
+    }
+    let step = step_of(order, k);
+    let stride = stride_of(order, count);
+    let signs = channels::signs();
+    put_from(
+        out,
+        at,
+        values,
+        count,
+        step,
+        stride,
+        format,
+        &stored,
+        &signs,
+    )
+}

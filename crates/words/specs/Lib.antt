@@ -1,0 +1,4 @@
+pub mod Names
+pub mod Places
+pub mod Said
+pub mod Told
