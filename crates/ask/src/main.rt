@@ -51,31 +51,44 @@ fn take(text: &mut [u8; 65536], line: &mut [u8; 262144], start: usize, bytes: &[
     gathered
 }
 
-struct Taken {
+// What one read brought: whether more can come, whether it failed, and how much is gathered of a line.
+struct Turn {
     more: bool,
+    failed: bool,
     gathered: usize,
 }
 
 // Reads once, and takes what came.
-fn take_some(text: &mut [u8; 65536], line: &mut [u8; 262144], gathered: usize) -> Taken {
+fn take_some(text: &mut [u8; 65536], line: &mut [u8; 262144], gathered: usize) -> Turn {
     let mut bytes = [0; 65536];
-    let n = io::count(libc::read(0, &mut bytes), &bytes);
-    Taken {
+    let got = libc::read(0, &mut bytes);
+    let n = io::count(got, &bytes);
+    Turn {
         more: 0 < n,
+        failed: got < 0,
         gathered: take(text, line, gathered, &bytes[0..n]),
     }
 }
 
+fn tell_unreadable() {
+    io::write_all(1, b"unreadable\n");
+}
+
 // A proved loop has to end, and nothing says that the input does: its turns are counted, up to a number that no run comes to.
+// A read that fails is not the end of the input: what is gathered then may be a part of a line, and is not answered.
 fn main() {
     let mut text = [0; 65536];
     let mut line = [0; 262144];
     let mut gathered: usize = 0;
     let mut turns: u64 = 0;
     while turns < 18446744073709551615 {
-        let taken = take_some(&mut text, &mut line, gathered);
-        gathered = taken.gathered;
-        if !taken.more {
+        let turn = take_some(&mut text, &mut line, gathered);
+        if turn.failed {
+            tell_unreadable();
+            return;
+        }
+        gathered = turn.gathered;
+        if !turn.more {
             break;
         }
         turns += 1;

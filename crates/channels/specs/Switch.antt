@@ -54,9 +54,9 @@ state-refused b e = go (admitted b) refl e
 
 -- ---- Both ways
 
-pub byte-state : (b : ℕ) → byteOf (stateOf b) ≡ b
+pub byte-state : (b : ℕ) → admitted b ≡ true → byteOf (stateOf b) ≡ b
 unfolding byteOf stateOf
-byte-state b = refl
+byte-state b h = refl
 
 pub state-is : (b : ℕ) → admitted b ≡ true → T (isState (stateOf b))
 unfolding isState stateOf

@@ -7,6 +7,7 @@ use refusals::Where;
 use walks::Found;
 ghost use Prim.Native.Nat.{_≤_};
 ghost use lib.ListN.{length};
+ghost use Rattle.io.specs.Counts.{Counts};
 
 // Each function here puts something into the text that is gathered, and answers how many bytes are gathered then.
 
@@ -134,9 +135,41 @@ fn list(file: &[u8]) {
     texts::write_out(&text, used);
 }
 
+// How many bytes were read, and whether a read failed: a part of a file is not listed as if it were all.
+struct Input {
+    read: usize,
+    failed: bool,
+}
+
+// Reads until the file's room is full, the input ends or a read fails.
+fn read_input(file: &mut [u8]) -> Input
+    ensures { λ r. ⌜ Counts (r .read) (now (file .exit)) ⌝ }
+{
+    let mut read: usize = 0;
+    while read < file.len() {
+        let got = libc::read(0, &mut file[read..]);
+        let more = io::count(got, &file[read..]);
+        if more == 0 {
+            return Input {
+                read: read,
+                failed: got < 0,
+            };
+        }
+        read += more;
+    }
+    Input {
+        read: read,
+        failed: false,
+    }
+}
+
 // One byte more than is listed, so that it is seen where there are more.
 fn main() {
     let mut file = [0; 65537];
-    let n = io::read_full(0, &mut file);
-    list(&file[..n]);
+    let input = read_input(&mut file);
+    if input.failed {
+        io::write_all(1, b"unreadable\n");
+        return;
+    }
+    list(&file[..input.read]);
 }

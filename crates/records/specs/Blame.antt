@@ -8,7 +8,7 @@ use native.Mathlib.Omega.{arith}
 use lib.Dec.{eqb}
 use lib.ListN.{length, take, getD, length-append}
 use lib.Seq.{take-append-seam, getD-append-seam}
-use borrow.Author.Tests.{eqb-true, eqb-false, eq-eqb, ne-eqb, leb-false, lt-leb}
+use borrow.Author.Tests.{eqb-true, eqb-false, eq-eqb, ne-eqb}
 use Rattle.formats.specs.Bytes.{Bytes, impossible}
 use Rattle.formats.specs.Reader.{bad, run}
 use Rattle.formats.specs.Number.{digits, writes-number}
@@ -106,7 +106,6 @@ unfolding channels ValidPoint encodePoint
 point-to d good o n opens counted before rest b k e x =
     let p = x .broken in
     let f = stored-at (stored d) 0 S (p .place) (p .within) (eqb-true _ S (p .broken .0)) in
-    let more : 1 < b = leb-false b 1 (p .broken .3) in
     rw (p .broken .1)
     (penState (record {
       description = d;
@@ -123,7 +122,7 @@ point-to d good o n opens counted before rest b k e x =
       written =
           rw (← opening-admits o opens, ← f .1, e, x .written, p .written, p .broken .2)
           (sym (bracket (header d) (o ∷ []) (digits 3 n) (flatMap (encodePoint 2 (stored d)) (x .values)) (encodeEach (encodeSample 2) (take (p .place) (channels (stored d))) (p .values))));
-      other = (omega arith, omega arith);
+      other = p .broken .3;
     }))
 
 body-to : (d : Description) → described.Valid 2 d → (before rest : List ℕ) (b k : ℕ) → before ≡ header d ++ rest → FromOpening d rest b k → Breaks before b k
@@ -187,7 +186,7 @@ point-from before b x =
       valid = rw seam (x .fit);
       rest = [];
       written = rw seam;
-      broken = (eq-eqb _ S at, refl, refl, lt-leb b 1 (omega (arith, x .other .0, x .other .1)));
+      broken = (eq-eqb _ S at, refl, refl, x .other);
     }
 
 from : (before : List ℕ) (b k : ℕ) → Breaks before b k → Lines before b k

@@ -16,6 +16,12 @@ loop-holds c = search needs
 take-some-requires : tie.Need-take-some-requires Inv-loop μ-loop
 take-some-requires c κs = search needs
 
+tell-unreadable-requires : tie.Need-tell-unreadable-requires Inv-loop μ-loop
+tell-unreadable-requires c κs = search needs
+
+returns : tie.Need-returns Inv-loop μ-loop
+returns c = search needs
+
 add-turns : tie.Need-add-turns Inv-loop μ-loop
 add-turns c = search needs
 
@@ -31,11 +37,11 @@ answer-requires c κs = search needs
 write-out-requires : tie.Need-write-out-requires Inv-loop μ-loop
 write-out-requires c κs = search needs
 
-returns : tie.Need-returns Inv-loop μ-loop
-returns c = search needs
-
 returns-2 : tie.Need-returns-2 Inv-loop μ-loop
 returns-2 c = search needs
+
+returns-3 : tie.Need-returns-3 Inv-loop μ-loop
+returns-3 c = search needs
 
 pub main-spec : {M : Type 1} → statement M
 main-spec =
@@ -45,10 +51,12 @@ main-spec =
     μ-loop
     loop-holds
     take-some-requires
+    tell-unreadable-requires
+    returns
     add-turns
     loop-less
     loop-again
     answer-requires
     write-out-requires
-    returns
-    returns-2)
+    returns-2
+    returns-3)
