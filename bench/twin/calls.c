@@ -32,10 +32,8 @@ struct judgement twin_judge(const uint8_t *s, size_t n, size_t channel)
 struct told twin_describe(const uint8_t *s, size_t n, bool compact, size_t channel)
 {
     struct description d;
-    struct end e = read_description(s, n, 0, compact ? COMPACT : FULL, &d);
+    struct end e = read_description(s, n, compact ? COMPACT : FULL, &d);
 
-    if (e.number)
-        d = (struct description){};
     return (struct told){e.number, e.place, said_of(&d.channel[channel % CHANNELS])};
 }
 
@@ -69,8 +67,7 @@ struct finished twin_write(const uint8_t *header, size_t size, size_t count, con
     struct description d;
     struct part part = {extended, length};
 
-    if (read_description(header, size, 0, FULL, &d).number)
-        d = (struct description){};
+    read_description(header, size, FULL, &d);
     struct end e = write_record(&d, count, values, amount, wanted ? &part : nullptr, out, room);
     return (struct finished){e.number, e.place};
 }
@@ -97,8 +94,7 @@ struct finished twin_write_template(const uint8_t *header, size_t size, bool lim
 {
     struct template t = {.described = true, .limited = limited, .maximum = maximum};
 
-    if (read_description(header, size, 0, COMPACT, &t.description).number)
-        t.description = (struct description){};
+    read_description(header, size, COMPACT, &t.description);
     struct end e = write_template(&t, out, room);
     return (struct finished){e.number, e.place};
 }

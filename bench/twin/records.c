@@ -4,121 +4,120 @@
 // The format identifier (7.3.2) and the version (7.3.3).
 static const uint8_t marks[8] = {0x53, 0x44, 0x49, 0x00, 0x20, 0x31, 0x30, 0x00};
 
-static struct end check_marks(const uint8_t *s, size_t n)
+// Whether eight bytes are the marks, in one look.
+INLINE bool are_marks(const uint8_t *s)
 {
-    for (size_t i = 0; i < sizeof marks; i++) {
-        if (i == n)
-            return is_short();
-        if (s[i] != marks[i])
-            return refused(i < 4 ? 2 : 3, i);
-    }
-    return done(sizeof marks);
+    uint64_t these, those;
+
+    __builtin_memcpy(&these, s, sizeof these);
+    __builtin_memcpy(&those, marks, sizeof those);
+    return these == those;
+}
+
+// Why bytes do not begin with the marks.
+static struct end refuse_marks(const uint8_t *s, size_t n)
+{
+    size_t i = 0;
+
+    while (i < n && s[i] == marks[i])
+        i++;
+    return i == n ? is_short() : refused(i < 4 ? 2 : 3, i);
+}
+
+// Why an opening is none of which fewer than five bytes are there.
+static struct end refuse_opening(const uint8_t *s, size_t n, size_t at)
+{
+    if (at < n && s[at])
+        return refused(6, at);
+    if (at + 1 < n && s[at + 1] & 0x7F)
+        return refused(7, at + 1);
+    return is_short();
 }
 
 // The header's reserved byte (7.3.5), the body's opening byte (7.4.1), the count of points (7.4.2).
-static struct end read_opening(const uint8_t *s, size_t n, size_t at, struct layout *l)
+INLINE struct end read_opening(const uint8_t *s, size_t n, size_t at, struct layout *l)
 {
-    if (n - at < 1)
-        return is_short();
-    if (s[at] != 0)
-        return refused(6, at);
-    if (n - at < 2)
-        return is_short();
-    if (s[at + 1] & 0x7F)
-        return refused(7, at + 1);
     if (n - at < 5)
-        return is_short();
-    l->extended = s[at + 1] != 0;
-    l->count = (uint32_t)s[at + 2] << 16 | (uint32_t)s[at + 3] << 8 | s[at + 4];
+        return refuse_opening(s, n, at);
+    if (s[at])
+        return refused(6, at);
+    uint32_t opening = four(s + at + 1);
+    if (opening & 0x7F000000)
+        return refused(7, at + 1);
+    l->extended = opening >> 31;
+    l->count = opening & 0xFFFFFF;
     return done(at + 5);
 }
 
-static inline size_t width_in_point(const struct descriptor *d, enum channel c)
+// The channels before S have the bits above that of S.
+INLINE size_t numbers_before_switch(uint32_t stored)
 {
-    return is_stored(d) ? (c == S ? 1 : 2) : 0;
+    return __builtin_popcount(stored / (2 * BIT(S)));
 }
 
-// How many bytes of a point the channels before one have.
-static size_t width_before(const struct description *d, enum channel last)
+// Points with a switch are looked at one byte a point. How many are whole is asked once, and not at each.
+INLINE struct end pass_switches(const uint8_t *s, size_t n, size_t at, const struct layout *l)
 {
-    size_t width = 0;
+    size_t width = l->channels.width, size = l->count * width;
+    size_t offset = 2 * numbers_before_switch(l->channels.stored);
+    bool cut = n - at < size;
 
-    for (enum channel c = X; c < last; c++)
-        width += width_in_point(&d->channel[c], c);
-    return width;
+    if (cut)
+        size = (n - at) / width * width;
+    size_t next = at + offset;
+    for (size_t last = next + size; next != last; next += width)
+        if (s[next] > 1)
+            return refused(8, next);
+    if (!cut)
+        return done(at + size);
+    return next < n && s[next] > 1 ? refused(8, next) : is_short();
 }
 
-size_t width_of(const struct description *d)
+// The points (7.4.2). Those without a switch may be any bytes, and are passed over at once.
+INLINE struct end pass_points(const uint8_t *s, size_t n, size_t at, const struct layout *l)
 {
-    return width_before(d, CHANNELS);
-}
-
-// The points (7.4.2). Points with a switch are looked at one byte a point; others are passed over at once.
-static struct end pass_points(const uint8_t *s, size_t n, size_t at, const struct description *d,
-                              const struct layout *l)
-{
-    size_t width = l->width;
-
-    if (!is_stored(&d->channel[S])) {
-        if (n - at < l->count * width)
-            return is_short();
-        return done(at + l->count * width);
-    }
-    size_t offset = width_before(d, S);
-    for (size_t left = l->count; left > 0; left--) {
-        if (n - at <= offset)
-            return is_short();
-        if (s[at + offset] > 1)
-            return refused(8, at + offset);
-        if (n - at < width)
-            return is_short();
-        at += width;
-    }
-    return done(at);
+    if (l->channels.stored & BIT(S))
+        return pass_switches(s, n, at, l);
+    size_t size = l->count * l->channels.width;
+    return n - at < size ? is_short() : done(at + size);
 }
 
 // The extended data: a length of two bytes, and that many bytes (7.4.3).
-static struct end pass_extension(const uint8_t *s, size_t n, size_t at)
+INLINE struct end pass_extension(const uint8_t *s, size_t n, size_t at)
 {
     if (n - at < 2)
         return is_short();
-    size_t size = pair(s + at);
-    at += 2;
-    if (n - at < size)
-        return is_short();
-    return done(at + size);
+    size_t size = 2 + pair(s + at);
+    return n - at < size ? is_short() : done(at + size);
 }
 
-// The record that some bytes begin with. Where the number is not 0 nothing else is to be looked at.
-static struct end lay(const uint8_t *s, size_t n, struct description *d, struct layout *l)
+// The record that some bytes begin with, described in `d` or, where that is NULL, only measured.
+// Where the number is not 0 nothing else is to be looked at.
+INLINE struct end lay(const uint8_t *s, size_t n, struct description *d, struct layout *l)
 {
-    struct end e = check_marks(s, n);
-    if (e.number)
-        return e;
-    e = read_description(s, n, e.place, FULL, d);
+    if (n < sizeof marks || !are_marks(s))
+        return refuse_marks(s, n);
+    struct end e = go_over(s, n, sizeof marks, FULL, d, &l->channels);
     if (e.number)
         return e;
     e = read_opening(s, n, e.place, l);
     if (e.number)
         return e;
     l->points = e.place;
-    l->width = width_of(d);
-    e = pass_points(s, n, e.place, d, l);
+    e = pass_points(s, n, e.place, l);
     if (e.number)
         return e;
     l->extension = e.place;
-    if (l->extended) {
+    if (l->extended)
         e = pass_extension(s, n, e.place);
-        if (e.number)
-            return e;
-    }
     l->end = e.place;
     return e;
 }
 
 // The verdict, with a description that says nothing where there is no record.
-struct end judge(const uint8_t *s, size_t n, struct description *d, struct layout *l)
+LIBRARY struct end judge(const uint8_t *s, size_t n, struct description *d, struct layout *l)
 {
+    *d = (struct description){};
     struct end e = lay(s, n, d, l);
 
     if (e.number) {
@@ -129,149 +128,183 @@ struct end judge(const uint8_t *s, size_t n, struct description *d, struct layou
 }
 
 // The extended data: the empty part at the record's end where it has none, and at the start where there is no record.
-struct part extended_of(const uint8_t *s, size_t n)
+LIBRARY struct part extended_of(const uint8_t *s, size_t n)
 {
-    struct description d;
     struct layout l;
 
-    if (lay(s, n, &d, &l).number)
+    if (lay(s, n, nullptr, &l).number)
         return (struct part){s, 0};
-    if (!l.extended)
-        return (struct part){s + l.end, 0};
-    return (struct part){s + l.extension + 2, l.end - (l.extension + 2)};
+    size_t start = l.extended ? l.extension + 2 : l.end;
+    return (struct part){s + start, l.end - start};
 }
 
 // What stands behind the record: the empty part at the start where there is none.
-struct part rest_of(const uint8_t *s, size_t n)
+LIBRARY struct part rest_of(const uint8_t *s, size_t n)
 {
-    struct description d;
     struct layout l;
 
-    if (lay(s, n, &d, &l).number)
+    if (lay(s, n, nullptr, &l).number)
         return (struct part){s, 0};
     return (struct part){s + l.end, n - l.end};
 }
 
-// A point whose bytes are known to be there and good.
-void point_at(const uint8_t *s, const struct description *d, struct place places[CHANNELS])
+// The places of some channels that have two bytes each. Answers where the next one stands.
+INLINE const uint8_t *places_of(const uint8_t *s, uint32_t stored, struct place places[CHANNELS])
 {
-    for (enum channel c = X; c < CHANNELS; c++) {
-        const struct descriptor *at = &d->channel[c];
-        if (!at->included) {
-            places[c] = (struct place){ABSENT, 0};
-        } else if (at->constant) {
-            places[c] = (struct place){CONSTANT, 0};
-        } else if (c == S) {
-            places[c] = (struct place){NUMBER, *s};
-            s += 1;
-        } else {
-            places[c] = (struct place){NUMBER, (int32_t)pair(s) - offset_of(c, FULL)};
-            s += 2;
-        }
+    while (stored) {
+        uint32_t rank = take_first(&stored);
+        places[R - rank] = (struct place){NUMBER, (int32_t)pair(s) - offsets[FULL][rank]};
+        s += 2;
     }
+    return s;
 }
 
-// One point of the record at the front; 10 where it has none with this index. The places are all absent where there is none.
-struct end point(const uint8_t *s, size_t n, size_t index, struct place places[CHANNELS])
+// A point whose bytes are known to be there and good. S is between the channels that have two bytes.
+INLINE void point_at(const uint8_t *s, const struct channels *channels, struct place places[CHANNELS])
 {
-    struct description d;
+    uint32_t stored = channels->stored, constant = channels->included & ~stored;
+
+    __builtin_memset(places, 0, CHANNELS * sizeof *places);
+    while (constant)
+        places[R - take_first(&constant)].kind = CONSTANT;
+    s = places_of(s, stored & ~(2 * BIT(S) - 1), places);
+    if (stored & BIT(S))
+        places[S] = (struct place){NUMBER, *s++};
+    places_of(s, stored & (BIT(S) - 1), places);
+}
+
+// One point of the record at the front; 10 where it has none with this index. The places are all absent where there is
+// none.
+LIBRARY struct end point(const uint8_t *s, size_t n, size_t index, struct place places[CHANNELS])
+{
     struct layout l;
-    struct end e = lay(s, n, &d, &l);
+    struct end e = lay(s, n, nullptr, &l);
 
     if (!e.number && l.count <= index)
         e = refused(10, 0);
     if (e.number)
         __builtin_memset(places, 0, CHANNELS * sizeof *places);
     else
-        point_at(s + l.points + index * l.width, &d, places);
+        point_at(s + l.points + index * l.channels.width, &l.channels, places);
     return e;
 }
 
-// The channels that have a number in a point, in their order.
+// The numbers of a point in their order: what is added to each before it is stored, and the bits that it has not then.
 struct row {
     size_t size;
-    enum channel channel[CHANNELS];
+    size_t before; // how many stand before S
+    bool switched; // whether S is among them
+    uint32_t offset[CHANNELS], outside[CHANNELS];
 };
 
-static void stored_in(const struct description *d, struct row *row)
+// S holds 0 and 1, any other channel what two bytes do.
+static void stored_in(uint32_t stored, struct row *row)
 {
-    row->size = 0;
-    for (enum channel c = X; c < CHANNELS; c++)
-        if (is_stored(&d->channel[c]))
-            row->channel[row->size++] = c;
+    size_t size = 0;
+
+    row->before = numbers_before_switch(stored);
+    row->switched = stored & BIT(S);
+    for (; stored; size++) {
+        row->offset[size] = offsets[FULL][take_first(&stored)];
+        row->outside[size] = ~0xFFFFu;
+    }
+    row->size = size;
+    if (row->switched)
+        row->outside[row->before] = ~1u;
 }
 
-// Whether a point can hold a number: S holds 0 and 1, any other channel what two bytes do.
-static inline bool value_fits(enum channel c, int32_t value)
-{
-    if (c == S)
-        return (uint32_t)value < 2;
-    return (uint32_t)value + (uint32_t)offset_of(c, FULL) < 65536;
-}
-
+// The bits that no number may have are gathered for a point, so that clang goes through its numbers four at a time.
 static bool values_fit(const struct row *row, size_t count, const int32_t *values)
 {
     size_t size = row->size;
 
-    for (size_t i = 0; i < count; i++)
+    for (; count; count--) {
+        uint32_t flaws = 0;
         for (size_t j = 0; j < size; j++)
-            if (!value_fits(row->channel[j], *values++))
-                return false;
+            flaws |= ((uint32_t)values[j] + row->offset[j]) & row->outside[j];
+        if (flaws)
+            return false;
+        values += size;
+    }
     return true;
 }
 
+INLINE uint8_t *put_numbers(uint8_t *restrict out, const int32_t *restrict values, const uint32_t *restrict offset,
+                            size_t size)
+{
+    for (size_t j = 0; j < size; j++) {
+        uint16_t number = __builtin_bswap16((uint16_t)((uint32_t)values[j] + offset[j]));
+        __builtin_memcpy(out + 2 * j, &number, 2);
+    }
+    return out + 2 * size;
+}
+
+// S has one byte, between the others.
 static uint8_t *put_points(uint8_t *out, const struct row *row, size_t count, const int32_t *values)
 {
-    size_t size = row->size;
+    size_t size = row->size, before = row->before, behind = before + row->switched;
 
-    for (size_t i = 0; i < count; i++) {
-        for (size_t j = 0; j < size; j++) {
-            enum channel c = row->channel[j];
-            uint32_t number = *values++ + offset_of(c, FULL);
-            if (c != S)
-                *out++ = number >> 8;
-            *out++ = number;
-        }
+    for (; count; count--) {
+        out = put_numbers(out, values, row->offset, before);
+        if (before < behind)
+            *out++ = values[before];
+        out = put_numbers(out, values + behind, row->offset + behind, size - behind);
+        values += size;
     }
     return out;
 }
 
+INLINE uint8_t *put_opening(uint8_t *out, bool extended, size_t count)
+{
+    *out++ = 0;
+    *out++ = extended ? 0x80 : 0;
+    *out++ = count >> 16;
+    *out++ = count >> 8;
+    *out++ = count;
+    return out;
+}
+
+INLINE void put_extension(uint8_t *out, const struct part *extended)
+{
+    *out++ = extended->length >> 8;
+    *out++ = extended->length;
+    __builtin_memcpy(out, extended->bytes, extended->length);
+}
+
 // Writes a record. `extended` is NULL where none are wanted. The refusals come in this order: 4, 11, 12 for the
 // description, 12 for the count, 13, 12 for the values, 14, 15; on any of them the output is as it was.
-struct end write_record(const struct description *d, size_t count, const int32_t *values, size_t amount,
+LIBRARY struct end write_record(const struct description *d, size_t count, const int32_t *values, size_t amount,
                         const struct part *extended, uint8_t *out, size_t room)
 {
-    struct row row;
-    uint32_t flaw = flaw_of(d, FULL);
+    struct aside aside;
+    uint32_t flaw = put_aside(d, FULL, &aside);
 
     if (flaw)
         return refused(flaw, 0);
     if (16777215 < count)
         return refused(12, 0);
-    stored_in(d, &row);
-    if (amount != count * row.size)
+    size_t numbers = __builtin_popcount(aside.stored);
+    if (amount != count * numbers)
         return refused(13, 0);
-    if (row.size && !values_fit(&row, count, values))
-        return refused(12, 0);
+    struct row row;
+    if (amount) {
+        stored_in(aside.stored, &row);
+        if (!values_fit(&row, count, values))
+            return refused(12, 0);
+    }
     if (extended && 65535 < extended->length)
         return refused(14, 0);
-    size_t size = 13 + size_of(d, FULL) + count * width_of(d) + (extended ? 2 + extended->length : 0);
+    size_t width = 2 * numbers - (aside.stored & BIT(S) ? 1 : 0);
+    size_t size = 13 + aside.size + count * width + (extended ? 2 + extended->length : 0);
     if (room < size)
         return refused(15, 0);
 
     __builtin_memcpy(out, marks, sizeof marks);
-    uint8_t *at = put_description(out + sizeof marks, d, FULL);
-    *at++ = 0;
-    *at++ = extended ? 0x80 : 0;
-    *at++ = count >> 16;
-    *at++ = count >> 8;
-    *at++ = count;
-    if (row.size)
-        at = put_points(at, &row, count, values);
-    if (extended) {
-        *at++ = extended->length >> 8;
-        *at++ = extended->length;
-        __builtin_memcpy(at, extended->bytes, extended->length);
-    }
+    __builtin_memcpy(out + sizeof marks, aside.bytes, aside.size);
+    out = put_opening(out + sizeof marks + aside.size, extended, count);
+    if (amount)
+        out = put_points(out, &row, count, values);
+    if (extended)
+        put_extension(out, extended);
     return done(size);
 }

@@ -30,7 +30,8 @@ static struct end read_described(const uint8_t *s, size_t n, struct template *t)
     if (n <= 3 || n - 4 < s[3])
         return refused(17, 0);
     size_t size = s[3];
-    struct end e = read_description(s + 4, size, 0, COMPACT, &t->description);
+    struct channels channels;
+    struct end e = go_over(s + 4, size, 0, COMPACT, &t->description, &channels);
     if (e.number == 1)
         return refused(17, 0);
     if (e.number)
@@ -56,19 +57,16 @@ static struct end read_outer(const uint8_t *s, size_t n, struct template *t)
         return is_short();
     if (size < n - 2)
         return refused(9, 2 + size);
-    t->described = t->limited = false;
-    t->maximum = 0;
     if (2 < n && s[2] == DESCRIBED)
         return read_described(s, n, t);
-    t->description = (struct description){};
     return read_limited(s, n, 2, t);
 }
 
 // The template is all zeros where there is none.
-struct end read_template(const uint8_t *s, size_t n, struct template *t)
+LIBRARY struct end read_template(const uint8_t *s, size_t n, struct template *t)
 {
+    *t = (struct template){};
     struct end e = read_outer(s, n, t);
-
     if (e.number)
         *t = (struct template){};
     return e;
@@ -79,32 +77,42 @@ static size_t fewest(uint32_t number)
     return number < 256 ? 1 : number < 65536 ? 2 : 3;
 }
 
-// Writes what is wanted; what is not is not looked at. Refusals: 4, 11, 12 for the description, 12 for the maximum, 15.
-struct end write_template(const struct template *t, uint8_t *out, size_t room)
+INLINE uint8_t *put_head(uint8_t *out, uint8_t tag, size_t size)
 {
+    *out++ = tag;
+    *out++ = size;
+    return out;
+}
+
+// Writes what is wanted; what is not is not looked at. Refusals: 4, 11, 12 for the description, 12 for the maximum, 15.
+LIBRARY struct end write_template(const struct template *t, uint8_t *out, size_t room)
+{
+    struct aside aside;
+    size_t size = 0, limited = 0;
+
     if (t->described) {
-        uint32_t flaw = flaw_of(&t->description, COMPACT);
+        uint32_t flaw = put_aside(&t->description, COMPACT, &aside);
         if (flaw)
             return refused(flaw, 0);
+        size += 2 + aside.size;
     }
-    if (t->limited && 16777215 < t->maximum)
-        return refused(12, 0);
-    size_t described = t->described ? size_of(&t->description, COMPACT) : 0;
-    size_t limited = t->limited ? fewest(t->maximum) : 0;
-    size_t size = (t->described ? 2 + described : 0) + (t->limited ? 2 + limited : 0);
+    if (t->limited) {
+        if (16777215 < t->maximum)
+            return refused(12, 0);
+        limited = fewest(t->maximum);
+        size += 2 + limited;
+    }
     if (room < 2 + size)
         return refused(15, 0);
 
-    *out++ = OUTER;
-    *out++ = size;
+    out = put_head(out, OUTER, size);
     if (t->described) {
-        *out++ = DESCRIBED;
-        *out++ = described;
-        out = put_description(out, &t->description, COMPACT);
+        out = put_head(out, DESCRIBED, aside.size);
+        __builtin_memcpy(out, aside.bytes, aside.size);
+        out += aside.size;
     }
     if (t->limited) {
-        *out++ = LIMITED;
-        *out++ = limited;
+        out = put_head(out, LIMITED, limited);
         for (size_t i = limited; i-- > 0;)
             *out++ = t->maximum >> 8 * i;
     }

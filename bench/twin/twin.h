@@ -10,8 +10,19 @@ typedef __INT64_TYPE__ int64_t;
 typedef __UINT64_TYPE__ uint64_t;
 typedef __SIZE_TYPE__ size_t;
 
+// For a function that clang is to see once for each use, with what is constant there.
+#define INLINE static inline __attribute__((always_inline))
+
+// For a function of the library: static, as the Rattle compiler has it, which sees all crates at once.
+#define LIBRARY [[maybe_unused]] static
+
 // The channels in the order of 7.3.4.1.
 enum channel { X, Y, Z, VX, VY, AX, AY, T, DT, F, S, TX, TY, AZ, EL, R, CHANNELS };
+
+// A set of channels has a bit for each, as the inclusion bytes have them. The rank of a channel is its bit's: 15 for X,
+// 0 for R.
+#define RANK(channel) (R - (channel))
+#define BIT(channel) (0x8000u >> (channel))
 
 // What a descriptor says of a channel (7.3.4.2). A number whose flag is not set is 0.
 struct attribute {
@@ -32,6 +43,13 @@ struct description {
 // A number is stored in two bytes in a record (clause 7), in one in a template (clause 8).
 enum width { COMPACT = 1, FULL = 2 };
 
+// What a header says of its channels without their attributes: which are included, which of these have a number in a
+// sample point, and how many bytes a point has.
+struct channels {
+    uint32_t included, stored;
+    size_t width;
+};
+
 // How something ended: number 0 and the place behind it, or a refusal's number and place. Short (1) has no place.
 struct end {
     size_t place;
@@ -48,8 +66,8 @@ struct place {
 
 // Where the parts of a record lie.
 struct layout {
+    struct channels channels;
     size_t points, extension, end;
-    size_t width; // of a point
     uint32_t count;
     bool extended;
 };
@@ -85,60 +103,69 @@ struct reading {
     enum kind kind;
 };
 
-static inline struct end done(size_t place)
+// A description that was put aside: its bytes, and the channels that have a number in a sample point.
+struct aside {
+    uint8_t bytes[178]; // two inclusion bytes, and eleven for each of sixteen channels
+    size_t size;
+    uint32_t stored;
+};
+
+INLINE struct end done(size_t place)
 {
     return (struct end){place, 0};
 }
 
-static inline struct end is_short(void)
+INLINE struct end is_short(void)
 {
     return (struct end){0, 1};
 }
 
-static inline struct end refused(uint32_t number, size_t place)
+INLINE struct end refused(uint32_t number, size_t place)
 {
     return (struct end){place, number};
 }
 
-// Two bytes, the high one first.
-static inline uint32_t pair(const uint8_t *at)
+// Two bytes and four, the highest first, in one load.
+INLINE uint32_t pair(const uint8_t *at)
 {
-    return (uint32_t)at[0] << 8 | at[1];
+    uint16_t number;
+
+    __builtin_memcpy(&number, at, sizeof number);
+    return __builtin_bswap16(number);
 }
 
-static inline bool is_stored(const struct descriptor *d)
+INLINE uint32_t four(const uint8_t *at)
 {
-    return d->included && !d->constant;
+    uint32_t number;
+
+    __builtin_memcpy(&number, at, sizeof number);
+    return __builtin_bswap32(number);
 }
 
-extern const bool is_signed[CHANNELS];
-
-// What is added to a number of a signed channel before it is stored.
-static inline int32_t offset_of(enum channel c, enum width width)
+// Takes the first channel out of a set that is not empty, and answers its rank. So a loop goes over the channels that
+// are there, and not over sixteen.
+INLINE uint32_t take_first(uint32_t *set)
 {
-    if (!is_signed[c])
-        return 0;
-    return width == FULL ? 32768 : 128;
+    uint32_t rank = 31 - __builtin_clz(*set);
+
+    *set &= ~(1u << rank);
+    return rank;
 }
 
-struct end read_description(const uint8_t *s, size_t n, size_t start, enum width width, struct description *d);
-uint32_t flaw_of(const struct description *d, enum width width);
-size_t size_of(const struct description *d, enum width width);
-uint8_t *put_description(uint8_t *out, const struct description *d, enum width width);
+LIBRARY struct end read_description(const uint8_t *s, size_t n, enum width width, struct description *d);
+LIBRARY uint32_t put_aside(const struct description *d, enum width width, struct aside *aside);
 
-struct end judge(const uint8_t *s, size_t n, struct description *d, struct layout *l);
-struct part extended_of(const uint8_t *s, size_t n);
-struct part rest_of(const uint8_t *s, size_t n);
-size_t width_of(const struct description *d);
-void point_at(const uint8_t *s, const struct description *d, struct place places[CHANNELS]);
-struct end point(const uint8_t *s, size_t n, size_t index, struct place places[CHANNELS]);
-struct end write_record(const struct description *d, size_t count, const int32_t *values, size_t amount,
+LIBRARY struct end judge(const uint8_t *s, size_t n, struct description *d, struct layout *l);
+LIBRARY struct part extended_of(const uint8_t *s, size_t n);
+LIBRARY struct part rest_of(const uint8_t *s, size_t n);
+LIBRARY struct end point(const uint8_t *s, size_t n, size_t index, struct place places[CHANNELS]);
+LIBRARY struct end write_record(const struct description *d, size_t count, const int32_t *values, size_t amount,
                         const struct part *extended, uint8_t *out, size_t room);
 
-void step_at(const uint8_t *file, size_t n, size_t place, struct step *step);
+LIBRARY void step_at(const uint8_t *file, size_t n, size_t place, struct step *step);
 
-struct end read_template(const uint8_t *s, size_t n, struct template *t);
-struct end write_template(const struct template *t, uint8_t *out, size_t room);
+LIBRARY struct end read_template(const uint8_t *s, size_t n, struct template *t);
+LIBRARY struct end write_template(const struct template *t, uint8_t *out, size_t room);
 
-struct reading thousandths(int64_t raw, uint64_t e, uint64_t f);
-struct reading place_thousandths(struct place place, struct attribute scaling);
+LIBRARY struct reading thousandths(int64_t raw, uint64_t e, uint64_t f);
+LIBRARY struct reading place_thousandths(struct place place, struct attribute scaling);

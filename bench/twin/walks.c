@@ -2,16 +2,15 @@
 #include "twin.h"
 
 // What is not a record leaves the place; a refusal's place counts from the file's start.
-void step_at(const uint8_t *file, size_t n, size_t place, struct step *step)
+LIBRARY void step_at(const uint8_t *file, size_t n, size_t place, struct step *step)
 {
-    struct description d;
     struct layout l;
 
     if (n <= place) {
         *step = (struct step){.number = END, .next = place};
         return;
     }
-    struct end e = judge(file + place, n - place, &d, &l);
+    struct end e = lay(file + place, n - place, nullptr, &l);
     if (e.number == 0)
         *step = (struct step){.place = e.place, .next = place + e.place, .count = l.count, .extended = l.extended};
     else if (e.number == 1)

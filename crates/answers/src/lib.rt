@@ -1,12 +1,12 @@
 // Answers, as words: what a function of the library answered, put into the text without its line feed.
 use channels::Place;
-use records::Pointed;
-use records::Verdict;
+use record_parts::Pointed;
+use record_reading::Verdict;
 use refusals::Refusal;
 use refusals::Where;
 use walks::Found;
 
-// Why a line cannot be read, beside the reasons of `words` and `sayings`.
+// Why a line cannot be read, beside the reasons of `words`, `sayings` and `fields`.
 pub const NO_SUCH_QUESTION: usize = 7;
 
 pub const TOO_LONG: usize = 8;

@@ -14,9 +14,12 @@ use Rattle.channels.specs.declared.Stored.the-variants.{Number, Outside}
 use Rattle.channels.specs.declared.Switch.{Switch}
 use Rattle.channels.specs.declared.Switch.the-variants.{State, NotAdmitted}
 
--- the bytes that are admitted, and the state that one stands for
+-- the bytes that are admitted, one of them, and the state that one stands for
 abbrev pub admitted : ℕ → Bool
 admitted byte = leb byte 1
+
+abbrev pub admittedByte : ℕ
+admittedByte = 0x00
 
 unfoldable pub stateOf : ℕ → ℤ
 stateOf byte = pos byte

@@ -1,6 +1,22 @@
 // The library's functions as C calls them: bench/ counts what each costs beside a twin written in C.
 // An answer is handed over in plain numbers: 0 for what was asked for, else the refusal's number.
 // Of sixteen descriptors or places the one that is asked for is handed over, so that all have to be made.
+ghost use mathlib.Core.Path.{_≡_};
+ghost use mathlib.Core.Bool.{true};
+ghost use lib.ListN.{length};
+ghost use Rattle.formats.specs.Reader.{run, readAt};
+ghost use Rattle.formats.specs.Lent.{writing};
+ghost use Rattle.descriptions.specs.Description.{description};
+ghost use Rattle.descriptions.specs.Read.{described};
+ghost use Rattle.records.specs.Record.{fullRecord};
+ghost use Rattle.record_reading.specs.Verdict.{judged};
+ghost use Rattle.record_parts.specs.Parts.{placesIn, extendedPlace, extendedSize, restPlace, restSize};
+ghost use Rattle.record_writing.specs.Write.{writeOf};
+ghost use Rattle.walks.specs.Walk.{stepOf};
+ghost use Rattle.templates.specs.Reading.{templateOf};
+ghost use Rattle.template_writing.specs.Writing as template;
+ghost use Rattle.readings.specs.Thousandths.{told, toldPlace, reading, placeReading};
+ghost use Rattle.costs.specs.Handed.{handedDescriptor, handedPlace, handedJudgement, handedDescription, widthIf, readHeader, seatOf, handedPoint, placeFrom, pieceOf, handedPart, handedRecord, handedTemplate, handedWriting, handedStep, handedReadTemplate, handedReading, scalingFrom};
 use channels::Attribute;
 use channels::Descriptor;
 use channels::Format;
@@ -8,7 +24,7 @@ use channels::Place;
 use formats::Outcome;
 use readings::PlaceReading;
 use readings::Reading;
-use records::Verdict;
+use record_reading::Verdict;
 use refusals::Refusal;
 use refusals::Where;
 use walks::Found;
@@ -31,7 +47,9 @@ pub struct Said {
     pub deviation: i32,
 }
 
-fn said_of(d: Descriptor) -> Said {
+fn said_of(d: Descriptor) -> Said
+    ensures { λ r. ⌜ r ≡ handedDescriptor d ⌝ }
+{
     Said {
         included: d.included,
         constant: d.constant,
@@ -50,7 +68,9 @@ fn said_of(d: Descriptor) -> Said {
 }
 
 // The place that a refusal names, or 0.
-fn place_of(refusal: Refusal) -> usize {
+fn place_of(refusal: Refusal) -> usize
+    ensures { λ r. ⌜ r ≡ handedPlace refusal ⌝ }
+{
     let place = refusals::place(refusal);
     match place {
         Where::At(byte) => byte,
@@ -69,8 +89,10 @@ pub struct Judgement {
 }
 
 #[no_mangle]
-pub extern "C" fn costs_judge(bytes: &[u8], channel: usize) -> Judgement {
-    let judged = records::judge(bytes);
+pub extern "C" fn costs_judge(bytes: &[u8], channel: usize) -> Judgement
+    ensures { λ r. ⌜ r ≡ handedJudgement channel (judged (run fullRecord (now (bytes .entry)))) ⌝ }
+{
+    let judged = record_reading::judge(bytes);
     let description = judged.description;
     let of = channel % 16;
     let d = description.channels[of];
@@ -107,7 +129,9 @@ pub struct Told {
 }
 
 #[no_mangle]
-pub extern "C" fn costs_describe(bytes: &[u8], compact: bool, channel: usize) -> Told {
+pub extern "C" fn costs_describe(bytes: &[u8], compact: bool, channel: usize) -> Told
+    ensures { λ r. ⌜ r ≡ handedDescription channel (described (readAt (description (widthIf compact)) (now (bytes .entry)) 0)) ⌝ }
+{
     let format = if compact {
         Format::Compact
     } else {
@@ -143,7 +167,9 @@ pub struct Seat {
     pub value: i32,
 }
 
-fn seat_of(place: Place) -> Seat {
+fn seat_of(place: Place) -> Seat
+    ensures { λ r. ⌜ r ≡ seatOf place ⌝ }
+{
     match place {
         Place::Absent => Seat { kind: 0, value: 0 },
         Place::Constant => Seat { kind: 1, value: 0 },
@@ -155,8 +181,10 @@ fn seat_of(place: Place) -> Seat {
 }
 
 #[no_mangle]
-pub extern "C" fn costs_point(bytes: &[u8], index: usize, channel: usize) -> Seat {
-    let places = records::point(bytes, index);
+pub extern "C" fn costs_point(bytes: &[u8], index: usize, channel: usize) -> Seat
+    ensures { λ r. ⌜ r ≡ handedPoint channel (placesIn index (run fullRecord (now (bytes .entry)))) ⌝ }
+{
+    let places = record_parts::point(bytes, index);
     let of = channel % 16;
     let place = places[of];
     seat_of(place)
@@ -169,7 +197,9 @@ pub struct Piece {
     pub first: u8,
 }
 
-fn piece_of(part: &[u8]) -> Piece {
+fn piece_of(part: &[u8]) -> Piece
+    ensures { λ r. ⌜ r ≡ pieceOf (now (part .entry)) ⌝ }
+{
     let length = part.len();
     if length == 0 {
         return Piece {
@@ -184,13 +214,17 @@ fn piece_of(part: &[u8]) -> Piece {
 }
 
 #[no_mangle]
-pub extern "C" fn costs_extended(bytes: &[u8]) -> Piece {
-    piece_of(records::extended(bytes))
+pub extern "C" fn costs_extended(bytes: &[u8]) -> Piece
+    ensures { λ r. ⌜ r ≡ handedPart (extendedPlace (run fullRecord (now (bytes .entry)))) (extendedSize (run fullRecord (now (bytes .entry)))) (now (bytes .entry)) ⌝ }
+{
+    piece_of(record_parts::extended(bytes))
 }
 
 #[no_mangle]
-pub extern "C" fn costs_rest(bytes: &[u8]) -> Piece {
-    piece_of(records::rest(bytes))
+pub extern "C" fn costs_rest(bytes: &[u8]) -> Piece
+    ensures { λ r. ⌜ r ≡ handedPart (restPlace (run fullRecord (now (bytes .entry)))) (restSize (length (now (bytes .entry))) (run fullRecord (now (bytes .entry)))) (now (bytes .entry)) ⌝ }
+{
+    piece_of(record_parts::rest(bytes))
 }
 
 // A refusal's number, and the length of what was written.
@@ -209,7 +243,9 @@ pub extern "C" fn costs_write(
     wanted: bool,
     extended: &[u8],
     out: &mut [u8],
-) -> Done {
+) -> Done
+    ensures { λ r. ⌜ writing r (now (out .exit)) ≡ handedWriting handedRecord (writeOf (readHeader 2 (now (header .entry))) count (now (values .entry)) wanted (now (extended .entry)) (now (out .entry))) ⌝ }
+{
     let described = descriptions::read(header, 0, Format::Full);
     let description = described.description;
     let written = record_writing::write(description, count, values, wanted, extended, out);
@@ -236,7 +272,9 @@ pub struct Stepped {
 }
 
 #[no_mangle]
-pub extern "C" fn costs_step(file: &[u8], place: usize) -> Stepped {
+pub extern "C" fn costs_step(file: &[u8], place: usize) -> Stepped
+    ensures { λ r. ⌜ r ≡ handedStep (stepOf (now (file .entry)) place) ⌝ }
+{
     let step = walks::step_at(file, place);
     let next = step.next;
     let found = step.found;
@@ -281,7 +319,9 @@ pub struct Templated {
 }
 
 #[no_mangle]
-pub extern "C" fn costs_read_template(bytes: &[u8], channel: usize) -> Templated {
+pub extern "C" fn costs_read_template(bytes: &[u8], channel: usize) -> Templated
+    ensures { λ r. ⌜ r ≡ handedReadTemplate channel (templateOf (now (bytes .entry))) ⌝ }
+{
     let judged = templates::read(bytes);
     let template = judged.template;
     let description = template.description;
@@ -316,7 +356,9 @@ pub extern "C" fn costs_write_template(
     limited: bool,
     maximum: u32,
     out: &mut [u8],
-) -> Done {
+) -> Done
+    ensures { λ r. ⌜ writing r (now (out .exit)) ≡ handedWriting handedTemplate (template.writeOf true (readHeader 1 (now (header .entry))) limited maximum (now (out .entry))) ⌝ }
+{
     let described = descriptions::read(header, 0, Format::Compact);
     let description = described.description;
     let written = template_writing::write(true, description, limited, maximum, out);
@@ -339,7 +381,9 @@ pub struct Read {
     pub thousandths: i64,
 }
 
-fn read_of(reading: Reading) -> Read {
+fn read_of(reading: Reading) -> Read
+    ensures { λ r. ⌜ r ≡ handedReading (told reading) ⌝ }
+{
     match reading {
         Reading::Thousandths(n) => Read {
             number: 0,
@@ -353,11 +397,15 @@ fn read_of(reading: Reading) -> Read {
 }
 
 #[no_mangle]
-pub extern "C" fn costs_thousandths(raw: i64, e: u64, f: u64) -> Read {
+pub extern "C" fn costs_thousandths(raw: i64, e: u64, f: u64) -> Read
+    ensures { λ r. ⌜ r ≡ handedReading (reading raw e f) ⌝ }
+{
     read_of(readings::to_thousandths(raw, e, f))
 }
 
-fn read_of_place(reading: PlaceReading) -> Read {
+fn read_of_place(reading: PlaceReading) -> Read
+    ensures { λ r. ⌜ r ≡ handedReading (toldPlace reading) ⌝ }
+{
     match reading {
         PlaceReading::Absent => Read {
             number: 1,
@@ -369,7 +417,9 @@ fn read_of_place(reading: PlaceReading) -> Read {
 
 // A place is handed in as a `Seat` has it.
 #[no_mangle]
-pub extern "C" fn costs_place(kind: u64, value: i32, given: bool, number: i32) -> Read {
+pub extern "C" fn costs_place(kind: u64, value: i32, given: bool, number: i32) -> Read
+    ensures { λ r. ⌜ r ≡ handedReading (placeReading (placeFrom kind value) (scalingFrom given number)) ⌝ }
+{
     let scaling = Attribute {
         given: given,
         number: number,

@@ -9,11 +9,8 @@ use Rattle.channels.specs.Channel.{widthOf}
 use Rattle.channels.specs.declared.Description.{Description}
 use Rattle.channels.specs.declared.Format.{Format}
 use Rattle.descriptions.specs.Description.{encodeDescription}
-use Rattle.description_writing.specs.Write.{judgementOf, putIf}
+use Rattle.description_writing.specs.Write.{putIf}
 use Rattle.description_writing.specs.declared.Written.{Written}
-
-pub one-judged : (description : Description) (format : Format) → OneAnswer (λ r. r ≡ judgementOf (widthOf format) description)
-one-judged description format = named
 
 pub one-size : (description : Description) (format : Format) → OneAnswer (λ r. r ≡ length (encodeDescription (widthOf format) description))
 one-size description format = named

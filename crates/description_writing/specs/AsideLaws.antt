@@ -13,7 +13,8 @@ use Rattle.refusals.specs.declared.Judgement.{Judgement}
 use Rattle.refusals.specs.declared.Judgement.the-variants as judgement
 use Rattle.channels.specs.declared.Description.{Description}
 use Rattle.descriptions.specs.Description.{encodeDescription}
-use Rattle.description_writing.specs.Write.{judgementOf, putIf}
+use Rattle.description_judging.specs.Judging.{judgementOf}
+use Rattle.description_writing.specs.Write.{putIf}
 use Rattle.description_writing.specs.WriteLaws.{put-done, put-refused}
 use Rattle.description_writing.specs.declared.Written.{Written}
 use Rattle.description_writing.specs.declared.Written.the-variants.{Done, Refused}

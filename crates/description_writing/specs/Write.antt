@@ -1,25 +1,19 @@
--- Writing a channel description: whether it can be written, and what becomes of the bytes that a writer is lent.
+-- Writing a channel description: what becomes of the bytes that a writer is lent.
 use mathlib.Core.Bool.{cond}
-use mathlib.Core.List.{List, [], _∷_}
+use mathlib.Core.List.{List}
 use Prim.Native.Nat.{ℕ, _+_}
 use lib.Dec.{leb}
 use lib.ListN.{length}
 use Rattle.formats.specs.Put.{puts}
 use Rattle.formats.specs.Lent.{Writing, writing}
-use Rattle.refusals.specs.Stages.{require, stages}
-use Rattle.refusals.specs.declared.Where.the-variants.{Nowhere}
-use Rattle.refusals.specs.declared.Quantity.the-variants.{Attribute}
-use Rattle.refusals.specs.declared.Refusal.the-variants.{XOrY, Untidy, OutOfRange, Room}
+use Rattle.refusals.specs.declared.Refusal.the-variants.{Room}
 use Rattle.refusals.specs.declared.Judgement.{Judgement}
 use Rattle.refusals.specs.declared.Judgement.the-variants as judgement
 use Rattle.channels.specs.declared.Description.{Description}
-use Rattle.descriptions.specs.Description.{encodeDescription, includesXY, tidy, allFit}
+use Rattle.descriptions.specs.Description.{encodeDescription}
+use Rattle.description_judging.specs.Judging.{judgementOf}
 use Rattle.description_writing.specs.declared.Written.{Written}
 use Rattle.description_writing.specs.declared.Written.the-variants.{Done, Refused}
-
--- stage by stage: the whole description is judged by one before the next
-unfoldable pub judgementOf : (w : ℕ) → Description → Judgement
-judgementOf w d = stages (require (includesXY d) (XOrY Nowhere) ∷ require (tidy d) Untidy ∷ require (allFit w d) (OutOfRange Attribute) ∷ [])
 
 -- a string is put at a place where there is room for it, and its end is answered; else the bytes stay as they were
 unfoldable pub putRoom : (out : List ℕ) (start : ℕ) (b : List ℕ) → Writing Written

@@ -1,162 +1,23 @@
-// Channel descriptions that are to be written: judged, measured and put, at two widths.
+// Channel descriptions that are to be written: measured and put, at two widths.
 use channels::Attribute;
 use channels::Description;
 use channels::Descriptor;
 use channels::Format;
 use refusals::Judgement;
-use refusals::Quantity;
 use refusals::Refusal;
-use refusals::Where;
 ghost use mathlib.Core.Path.{_≡_};
-ghost use mathlib.Core.Bool.{Bool, cond, _&&_};
+ghost use mathlib.Core.Bool.{Bool, cond};
 ghost use mathlib.Core.List.{map};
-ghost use Prim.Native.Nat.{ℕ, _+_, _-_, _*_, _^_, _≤_};
+ghost use Prim.Native.Nat.{ℕ, _+_, _*_, _≤_};
 ghost use lib.Dec.{T, leb};
 ghost use lib.ListN.{length};
-ghost use Rattle.formats.specs.Number.{digits};
 ghost use Rattle.formats.specs.Binary.{binary};
 ghost use Rattle.formats.specs.Laid.{Room, Laid};
 ghost use Rattle.formats.specs.Lent.{writing};
 ghost use Rattle.channels.specs.Channel.{signedOf, widthOf};
 ghost use Rattle.channels.specs.Stored.{valueOf};
-ghost use Rattle.descriptions.specs.Description.{includesXY, tidyAttribute, flagless, tidyDescriptor, tidy, fitsAttribute, fitsDescriptor, allFit};
-ghost use Rattle.descriptions.specs.Description.{encodeAttribute, descriptorByte, encodeDescriptor, encodeChannel, encodeDescription};
-ghost use Rattle.description_writing.specs.Write.{judgementOf, putRoom, putIf};
-
-// ---- Judging
-
-// X and Y are in each record.
-fn has_x_and_y(description: Description) -> bool
-    ensures { λ r. ⌜ r ≡ includesXY description ⌝ }
-{
-    let x = description.channels[channels::X];
-    let y = description.channels[channels::Y];
-    x.included & y.included
-}
-
-// An attribute that isn't given holds zero.
-fn tidy_attribute(attribute: Attribute) -> bool
-    ensures { λ r. ⌜ r ≡ tidyAttribute attribute ⌝ }
-{
-    attribute.given | (attribute.number == 0)
-}
-
-// None of the seven flags is set.
-fn has_no_flag(d: Descriptor) -> bool
-    ensures { λ r. ⌜ r ≡ flagless d ⌝ }
-{
-    !(d.scaling.given
-        | d.minimum.given
-        | d.maximum.given
-        | d.mean.given
-        | d.deviation.given
-        | d.constant
-        | d.detrended)
-}
-
-// A channel that isn't included has no flag, and no number stands without its flag.
-fn tidy_descriptor(d: Descriptor) -> bool
-    ensures { λ r. ⌜ r ≡ tidyDescriptor d ⌝ }
-{
-    (d.included | has_no_flag(d))
-        & (tidy_attribute(d.scaling)
-            & tidy_attribute(d.minimum)
-            & tidy_attribute(d.maximum)
-            & tidy_attribute(d.mean)
-            & tidy_attribute(d.deviation))
-}
-
-// Each of the sixteen is tidy.
-fn is_tidy(description: Description) -> bool
-    ensures { λ r. ⌜ r ≡ tidy description ⌝ }
-{
-    let mut i: usize = 0;
-    while i < 16 {
-        let d = description.channels[i];
-        if !tidy_descriptor(d) {
-            return false;
-        }
-        i += 1;
-    }
-    true
-}
-
-// The largest number that is stored.
-fn largest(format: Format) -> u16
-    ensures { λ r. ⌜ r ≡ 256 ^ widthOf format - 1 ⌝ }
-{
-    match format {
-        Format::Full => 65535,
-        Format::Compact => 255,
-    }
-}
-
-// An attribute that isn't given holds zero, and one that is given a number from `least` to `most`.
-fn sound_attribute(attribute: Attribute, least: i32, most: i32) -> bool
-    ensures { λ r. ⌜ ((w : ℕ) (signed : Bool) → least ≡ valueOf w signed 0 → most ≡ valueOf w signed (256 ^ w - 1) → r ≡ (tidyAttribute attribute && fitsAttribute w signed attribute)) ⌝ }
-{
-    let first = if attribute.given { least } else { 0 };
-    let last = if attribute.given { most } else { 0 };
-    first <= attribute.number && attribute.number <= last
-}
-
-// Whether a descriptor is tidy and each of its given numbers can be stored, in one look.
-// The scaling value has two bytes in either format, and neither it nor the deviation has a sign.
-fn sound_descriptor(d: Descriptor, format: Format, signed: bool) -> bool
-    ensures { λ r. ⌜ ((channel : ℕ) → signed ≡ signedOf channel → r ≡ (tidyDescriptor d && fitsDescriptor (widthOf format) channel d)) ⌝ }
-{
-    let largest = largest(format);
-    let least = channels::value_of(format, signed, 0);
-    let most = channels::value_of(format, signed, largest);
-    sound_attribute(d.scaling, 0, 65535)
-        && sound_attribute(d.minimum, least, most)
-        && sound_attribute(d.maximum, least, most)
-        && sound_attribute(d.mean, least, most)
-        && sound_attribute(d.deviation, 0, largest as i32)
-        && (d.included || has_no_flag(d))
-}
-
-// Each of the sixteen is tidy, and its given numbers can be stored.
-fn is_sound(description: Description, format: Format) -> bool
-    ensures { λ r. ⌜ r ≡ (tidy description && allFit (widthOf format) description) ⌝ }
-{
-    let signs = channels::signs();
-    let mut i: usize = 0;
-    while i < 16 {
-        let d = description.channels[i];
-        if !sound_descriptor(d, format, signs[i]) {
-            return false;
-        }
-        i += 1;
-    }
-    true
-}
-
-// Whether a description can be written: refusals 4, 11 and 12 of document 01, stage by stage, so that an untidy R comes before
-// a number of X that is out of range.
-pub fn judge(description: Description, format: Format) -> Judgement
-    ensures { λ r. ⌜ r ≡ judgementOf (widthOf format) description ⌝ }
-{
-    let sound = is_sound(description, format);
-    if !has_x_and_y(description) {
-        return Judgement::Refused(Refusal::XOrY {
-            place: Where::Nowhere,
-        });
-    }
-    if sound {
-        return Judgement::Passed;
-    }
-    // Only here is it asked which of the two it is.
-    if is_tidy(description) {
-        Judgement::Refused(Refusal::OutOfRange {
-            quantity: Quantity::Attribute,
-        })
-    } else {
-        Judgement::Refused(Refusal::Untidy) // whatever its numbers are
-    }
-}
-
-// ---- Writing
+ghost use Rattle.descriptions.specs.Description.{fitsAttribute, fitsDescriptor, allFit, encodeAttribute, descriptorByte, encodeDescriptor, encodeChannel, encodeDescription};
+ghost use Rattle.description_writing.specs.Write.{putRoom, putIf};
 
 // How many bytes an attribute has, whatever its sign.
 fn attribute_size(attribute: Attribute, format: Format) -> usize
@@ -234,26 +95,9 @@ fn inclusion(description: Description) -> u16
     bits
 }
 
-// A stored number is put, the high byte first; this and each that follows answers where the next goes.
-fn put_number(out: &mut [u8], at: usize, number: u16, format: Format) -> usize
-    requires { ⌜ Room (now out) at (digits (widthOf format) number) ⌝ }
-    ensures { λ r. ⌜ Laid (now (out .entry)) at (digits (widthOf format) number) (now (out .exit)) r ⌝ }
-{
-    match format {
-        Format::Full => {
-            out[at] = formats::high(number);
-            out[at + 1] = formats::low(number as u32);
-            at + 2
-        }
-        Format::Compact => {
-            out[at] = formats::low(number as u32);
-            at + 1
-        }
-    }
-}
-
 // An attribute that isn't given has no bytes. A number that is given fits, and isn't tested again:
 // what is stored for it is how far it is above the least of its kind, which is stored as 0.
+// The number is handed the very bytes that it has, so that the compiler sees that there is room. This and each that follows answers where the next goes.
 fn put_attribute(
     out: &mut [u8],
     at: usize,
@@ -267,7 +111,10 @@ fn put_attribute(
     if !attribute.given {
         return at;
     }
-    put_number(out, at, (attribute.number - least) as u16, format)
+    let number = (attribute.number - least) as u16;
+    let end = at + channels::width(format);
+    channels::put_number(&mut out[at..end], 0, number, format);
+    end
 }
 
 // The scaling value has two bytes in either format, and neither it nor the deviation has a sign.
@@ -309,7 +156,7 @@ fn put_description(out: &mut [u8], start: usize, description: Description, forma
 {
     let full = Format::Full;
     let signs = channels::signs();
-    let mut at = put_number(out, start, inclusion(description), full);
+    let mut at = channels::put_number(out, start, inclusion(description), full);
     let mut i: usize = 0;
     while i < 16 {
         let d = description.channels[i];
@@ -361,7 +208,7 @@ fn put_where_room(out: &mut [u8], start: usize, description: Description, format
 pub fn put(out: &mut [u8], start: usize, description: Description, format: Format) -> Written
     ensures { λ r. ⌜ writing r (now (out .exit)) ≡ putIf (widthOf format) description (now (out .entry)) start ⌝ }
 {
-    let judged = judge(description, format);
+    let judged = description_judging::judge(description, format);
     if let Judgement::Refused(refusal) = judged {
         return Written::Refused(refusal);
     }

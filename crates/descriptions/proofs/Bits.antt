@@ -1,8 +1,9 @@
 -- The inclusion bits as a loop over channels has them: those of the channels left, moved up, so that the next channel's is the highest.
 use mathlib.Core.Path.{_≡_, refl, sym, ap, _∙_}
+use mathlib.Core.Bool.{false}
 use mathlib.Core.Logic.{by-cases}
 use Prim.Native.Nat.{ℕ, suc, _+_, _-_, _*_, _/_, _%_, _^_, _≤_, _<_}
-use native.Mathlib.Nat.{pow-suc, mul-div-mul-right}
+use native.Mathlib.Nat.{pow-suc, mul-div-mul-right, zero-div}
 use native.Mathlib.Decide.{decLt}
 use native.Mathlib.Omega.{arith}
 use lib.Dec.{eqb, leb}
@@ -39,6 +40,10 @@ next-bit b k h =
     let f : 16 - (k + 1) - 1 ≡ 14 - k = omega arith in
     rw (e, f) (ap (λ n. eqb n 1) (moved-bit b k (14 - k) (omega arith)))
 
+no-bit : (k : ℕ) → includes 0 k ≡ false
+unfolding includes
+no-bit k = ap (λ n. eqb (n % 2) 1) (zero-div (2 ^ (16 - k - 1)))
+
 pub record Moved (inclusion bits channel : ℕ) : Type 0 where
   pub same : (k : ℕ) → channel + k < 16 → includes bits k ≡ includes inclusion (channel + k)
 
@@ -53,3 +58,10 @@ module _ {inclusion bits channel : ℕ} (m : Moved inclusion bits channel) where
   moved-on f = record {
     same = λ k h. f k (omega arith) ∙ m .same (k + 1) (omega arith) ∙ ap (includes inclusion) (let e : channel + (k + 1) ≡ channel + 1 + k = omega arith in e);
   }
+
+  -- where no bit is left, no channel is
+  pub moved-out : bits ≡ 0 → (c : ℕ) → channel ≤ c → c < 16 → includes inclusion c ≡ false
+  unfolding includes
+  moved-out e c h q =
+      let k : channel + (c - channel) ≡ c = omega arith in
+      sym (ap (includes inclusion) k) ∙ sym (m .same (c - channel) (omega arith)) ∙ ap (λ b. includes b (c - channel)) e ∙ no-bit (c - channel)

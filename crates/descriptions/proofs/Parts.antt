@@ -19,7 +19,7 @@ use Rattle.channels.specs.Stored.{valueOf}
 use Rattle.channels.specs.declared.Descriptor.{Descriptor}
 use Rattle.descriptions.specs.Description.{hasXY, reserved, noAttribute, attribute, descriptor, description}
 use Rattle.descriptions.specs.Read.{channelsFrom}
-use Rattle.descriptions.specs.declared.Taken.{Taken}
+use Rattle.descriptions.specs.declared.AttributeRead.{AttributeRead}
 
 -- ---- An attribute
 
@@ -36,7 +36,7 @@ module _ (w : ℕ) (signed flag : Bool) (s : List ℕ) (at : ℕ) where
 -- ---- A descriptor
 
 -- by its byte and the attributes that were read behind it
-abbrev pub made : (b : ℕ) (scaling minimum maximum mean deviation : Taken) → Descriptor
+abbrev pub made : (b : ℕ) (scaling minimum maximum mean deviation : AttributeRead) → Descriptor
 made b scaling minimum maximum mean deviation = record {
   included = true;
   scaling = scaling .attribute;
@@ -67,8 +67,8 @@ module _ (w channel : ℕ) (s : List ℕ) (at : ℕ) where
   descriptor-bad h q = descriptor-refused h (low-set (getD s at 0) q)
 
   -- the attributes behind the descriptor's byte, one after another
-  module _ (signed : Bool) (sign : signed ≡ signedOf channel) (scaling minimum maximum mean deviation : Taken) where
-    abbrev Reads : Taken → (w : ℕ) → (signed : Bool) → (k : ℕ) → (from : ℕ) → Type 0
+  module _ (signed : Bool) (sign : signed ≡ signedOf channel) (scaling minimum maximum mean deviation : AttributeRead) where
+    abbrev Reads : AttributeRead → (w : ℕ) → (signed : Bool) → (k : ℕ) → (from : ℕ) → Type 0
     Reads t w signed k from = readAt (attribute w signed (bit k (getD s at 0))) s from ≡ ok (t .attribute) (t .next)
 
     pub attributes-read : at < length s → reserved .holds (getD s at 0) ≡ true

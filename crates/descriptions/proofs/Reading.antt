@@ -125,6 +125,14 @@ module _ (w inclusion : ℕ) (s : List ℕ) (start : ℕ) where
         rw (g .included-same, g .stored-same)
         (sym (ap described (at-map _ _ s start ∙ ap (mapped _) (gathered-all channels _ s start ds channel at h (omega (arith, g .sixteen)) (g .gathered)))))
 
+  -- channels that aren't included leave all as it is
+  pub gone-out : (left : ℕ) (ds : List Descriptor) (included stored : List Bool) (channel at : ℕ) → channel + left ≡ 16
+      → ((c : ℕ) → channel ≤ c → c < 16 → includes inclusion c ≡ false) → Gone ds included stored channel at → Gone ds included stored 16 at
+  gone-out zero ds included stored channel at e none g = let z : channel ≡ 16 = omega arith in rw z at g
+  gone-out (suc left) ds included stored channel at e none g =
+      gone-out left ds included stored (channel + 1) at (omega arith) (λ c h q. none c (omega arith) q)
+      (gone-absent ds included stored channel at g (omega arith) (none channel (omega arith) (omega arith)))
+
 -- ---- Behind the inclusion bytes
 
 module _ (next : ℕ → Answer Description) {x : Answer Description} {o : Outcome} where

@@ -10,7 +10,7 @@ use borrow.Author.Tests.{not-true}
 use lib.IntN.{ℤ, pos, negsuc, natAbs}
 use lib.ListN.{length, getD, length-map, List·getD-map}
 use Rattle.formats.specs.Reader.{Reader, done, any}
-use Rattle.formats.specs.Number.{number, digits, writes-number}
+use Rattle.formats.specs.Number.{number, digits, writes-number, two-digits}
 use Rattle.formats.specs.Writes.{Writes, Each, writes-as, writes-map, writes-done, writes-one, writes-each, writes-line}
 use Rattle.channels.specs.Channel.{channels, signedOf, from}
 use Rattle.channels.specs.Stored.{valueOf, storedOf, fits, stored-value, value-fits, stored-below, value-stored}
@@ -334,10 +334,6 @@ xy-first : (d : Description) (m : ℕ) → inclusions (d .channels) ≡ bits 16 
 unfolding includesXY bits
 xy-first d m e = rw (← flag-at (d .channels) 0, ← flag-at (d .channels) 1, e, first-bits m .0, first-bits m .1)
 
-two-digits : (m : ℕ) → m / 256 < 256 → digits 2 m ≡ m / 256 ∷ m % 256 ∷ []
-unfolding digits
-two-digits m h = let e : m / 256 % 256 ≡ m / 256 = omega arith in rw e
-
 true-is : (t : Bool) → T t → t ≡ true
 true-is true h = refl
 true-is false h = absurd h
@@ -366,7 +362,7 @@ writes-description w =
     omega arith))
     (λ d h.
     let e : mask d / 256 * 256 + mask d % 256 ≡ mask d = omega arith in
-    (valid w d (all-of w (mask d) 16 0 (d .channels) refl (rw e at (h .1 .1 .0))) (h .0 .1), rw (append-nil, two-digits (mask d) (h .0 .0))))
+    (valid w d (all-of w (mask d) 16 0 (d .channels) refl (rw e at (h .1 .1 .0))) (h .0 .1), rw (append-nil, two-digits (mask d) (omega (arith, h .0 .0)))))
     (λ d h.
     let e : mask d / 256 * 256 + mask d % 256 ≡ mask d = omega arith in
     let b = bits-mask d (h .sixteen) in (

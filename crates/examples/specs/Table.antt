@@ -1,6 +1,6 @@
 -- The proved examples of document 01: one table of questions and answers, and one claim.
 --
--- Each answer is a function's own. `records::judge` promises `r ≡ judged (run fullRecord bytes)`, `judge_whole`, `judge_point` and `point` promise
+-- Each answer is a function's own. `record_reading::judge` promises `r ≡ judged (run fullRecord bytes)`, `judge_whole`, `judge_point` and `point` promise
 -- equations with `judgedWhole`, `pointedAt` and `placesIn`, `templates::read` promises `r ≡ templateOf bytes`, `readings::to_thousandths`
 -- promises `told r ≡ reading raw e f`, and none can meet its promise by a second answer. The right sides of these equations are what is
 -- computed here.
@@ -32,13 +32,15 @@ use Rattle.descriptions.specs.Description.{noAttribute, absent, attribute, desc
 use Rattle.descriptions.specs.Read.{nothing}
 use Rattle.points.specs.Points.{storedFrom, channels, sample, point}
 use Rattle.points.specs.Places.{placesOf, nowhere}
-use Rattle.records.specs.Record.{Record, extension, fullRecord}
-use Rattle.records.specs.Verdict.{present, verdictFrom, descriptionIn, judged, judgedWhole, pointedAt, placesIn}
-use Rattle.records.specs.declared.Verdict.{Verdict}
-use Rattle.records.specs.declared.Verdict.the-variants as verdict
-use Rattle.records.specs.declared.Judged.{Judged}
-use Rattle.records.specs.declared.Pointed.{Pointed}
-use Rattle.records.specs.declared.Pointed.the-variants as pointed
+use Rattle.records.specs.Record.{Record, extension, fullRecord, present}
+use Rattle.record_reading.specs.Verdict.{verdictFrom, descriptionIn, judged, judgedWhole}
+use Rattle.record_parts.specs.Parts.{pointedAt, placesIn}
+use Rattle.record_reading.specs.declared.Verdict.{Verdict}
+use Rattle.record_reading.specs.declared.Verdict.the-variants as verdict
+use Rattle.record_reading.specs.declared.Judged.{Judged}
+use Rattle.record_parts.specs.declared.Pointed.{Pointed}
+use Rattle.record_parts.specs.declared.Pointed.the-variants as pointed
+use Rattle.demands.specs.Shortest.{M}
 use Rattle.templates.specs.declared.Judged as judgement
 use Rattle.templates.specs.Reading as templates
 use Rattle.templates.specs.Reading.{saying, withContent, isShortest, atEnd, limitedBy, limitedFrom, filling, describedBy, contentOf, lengthAndContent, templateOf}
@@ -148,11 +150,7 @@ constantX = described (plain true) (plain false)
 abbrev xy : Place → Place → List Place
 xy x y = x ∷ y ∷ replicate 14 Absent
 
--- ---- The table
-
--- the shortest record
-abbrev M : List ℕ
-M = 0x53 ∷ 0x44 ∷ 0x49 ∷ 0x00 ∷ 0x20 ∷ 0x31 ∷ 0x30 ∷ 0x00 ∷ 0xC0 ∷ 0x00 ∷ 0x00 ∷ 0x00 ∷ 0x00 ∷ 0x00 ∷ 0x00 ∷ 0x00 ∷ 0x00 ∷ []
+-- ---- The table, of which M is the shortest record
 
 pub record Example : Type 0 where
   pub question : Question

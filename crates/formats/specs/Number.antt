@@ -9,7 +9,6 @@ use native.Mathlib.Omega.{arith}
 use lib.ListN.{length, drop, getD, length-append, length-drop, drop-of-length-le}
 use lib.Seq.{drop-cons, getD-drop}
 use Rattle.formats.specs.Reader.{Reader, done, ok, short, after, run, readAt, bind, map, one, any, next}
-use Rattle.formats.specs.Laid.{Room}
 use Rattle.formats.specs.Compose.{bind-ok}
 use Rattle.formats.specs.Told.{run-bind-failed}
 use Rattle.formats.specs.declared.Failure.the-variants.{Short}
@@ -63,8 +62,12 @@ module _ (n : ℕ) (s : List ℕ) (at : ℕ) where
   unfolding readAt after
   at-number-short h = ap (after at) (number-short n (drop at s) (simp length-drop (omega arith)))
 
--- the number that two bytes make, and three
+-- the number that one byte makes, and two, and three
 module _ (s : List ℕ) (at : ℕ) where
+  pub value-one : value 1 (drop at s) ≡ 0 * 256 + getD s at 0
+  unfolding value
+  value-one = let z : at + 0 ≡ at = omega arith in rw (getD-drop, z)
+
   pub value-two : value 2 (drop at s) ≡ getD s at 0 * 256 + getD s (at + 1) 0
   unfolding value
   value-two = let z : at + 0 ≡ at = omega arith in rw (getD-drop, getD-drop, z) (omega arith)
@@ -72,14 +75,6 @@ module _ (s : List ℕ) (at : ℕ) where
   pub value-three : value 3 (drop at s) ≡ (getD s at 0 * 256 + getD s (at + 1) 0) * 256 + getD s (at + 2) 0
   unfolding value
   value-three = let z : at + 0 ≡ at = omega arith in rw (getD-drop, getD-drop, getD-drop, z) (omega arith)
-
-  -- a number read in one byte, and in two
-  pub at-one : at + 1 ≤ length s → readAt (number 1) s at ≡ ok (0 * 256 + getD s at 0) (at + 1)
-  unfolding value
-  at-one h = let e : at + 0 ≡ at = omega arith in rw (getD-drop at s 0 0, e) at (at-number 1 s at h)
-
-  pub at-two : at + 2 ≤ length s → readAt (number 2) s at ≡ ok (getD s at 0 * 256 + getD s (at + 1) 0) (at + 2)
-  at-two h = at-number 2 s at h ∙ ap (λ v. ok v (at + 2)) value-two
 
 -- its digits in one byte, and in two
 pub one-digit : (n : ℕ) → digits 1 n ≡ n % 256 ∷ []
@@ -89,10 +84,6 @@ one-digit n = refl
 pub two-digits : (n : ℕ) → n < 65536 → digits 2 n ≡ n / 256 ∷ n % 256 ∷ []
 unfolding digits
 two-digits n h = let e : n / 256 % 256 ≡ n / 256 = omega arith in rw e
-
--- room for its digits is room for as many bytes
-pub digits-room : {s : List ℕ} {at w k : ℕ} (n : ℕ) → w ≡ k → Room s at (digits w n) → at + k ≤ length s
-digits-room {w = w} n e r = omega (arith, e, r .enough, length-digits w n)
 
 pub writes-number : (n : ℕ) → Writes (number n) (digits n) (λ v. v < 256 ^ n)
 unfolding number digits

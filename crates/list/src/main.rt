@@ -1,7 +1,7 @@
 // The listing program: what stands in a file of joined records, told in lines of text.
 use channels::Format;
 use channels::Place;
-use points::Taken;
+use points::PlaceRead;
 use refusals::Refusal;
 use refusals::Where;
 use walks::Found;
@@ -34,7 +34,8 @@ fn put_index(text: &mut [u8; 65536], used: u16, index: u32) -> u16 {
 // The points of the record that stands at a place. Points that have no bytes have no lines, however many they are.
 // The channels are gone through here, since a function of their own would be handed a copy of the flags for each point.
 fn put_points(text: &mut [u8; 65536], start: u16, file: &[u8], place: usize) -> u16 {
-    let front = records::front_at(file, place);
+    let heading = record_fronts::front_at(file, place);
+    let front = heading.front;
     let included = front.included;
     let stored = front.stored;
     if points::width(Format::Full, stored) == 0 {
@@ -55,11 +56,11 @@ fn put_points(text: &mut [u8; 65536], start: u16, file: &[u8], place: usize) -> 
                 included[channel],
                 stored[channel],
             ) {
-                Taken::Took { place: held, next } => {
+                PlaceRead::Read { place: held, next } => {
                     used = put_place(text, used, held);
                     at = next;
                 }
-                Taken::Failed(_) => return used,
+                PlaceRead::Failed(_) => return used,
             }
             channel += 1;
         }

@@ -18,11 +18,11 @@ use Rattle.channels.specs.declared.Place.{Place}
 use Rattle.channels.specs.declared.Place.the-variants.{Number}
 use Rattle.points.specs.Points.{sample, point, storedFrom, channels}
 use Rattle.points.specs.Places.{unstored, placesOf, nowhere, placesIn}
-use Rattle.points.specs.Parts.{sampled, taken, place}
+use Rattle.points.specs.Parts.{sampled, placeRead, place}
 use Rattle.points.specs.declared.Sample.{Sample}
 use Rattle.points.specs.declared.Sample.the-variants as samples
-use Rattle.points.specs.declared.Taken.{Taken}
-use Rattle.points.specs.declared.Taken.the-variants as takes
+use Rattle.points.specs.declared.PlaceRead.{PlaceRead}
+use Rattle.points.specs.declared.PlaceRead.the-variants as reads
 
 -- a channel with its two flags
 pub record Flagged : Type 0 where
@@ -55,9 +55,9 @@ nth-flagged (flag ∷ stored) included i (suc j) h =
     nth-flagged stored (drop 1 included) (suc i) j (omega arith) ∙ rw (z, getD-drop, y)
 
 -- a number as a place
-abbrev pub numbered : Sample → Taken
-numbered (samples.Number v n) = takes.Took (Number v) n
-numbered (samples.Failed f) = takes.Failed f
+abbrev pub numbered : Sample → PlaceRead
+numbered (samples.Number v n) = reads.Read (Number v) n
+numbered (samples.Failed f) = reads.Failed f
 
 module _ (w : ℕ) where
   abbrev pub placeOf : Flagged → Reader Place
@@ -117,28 +117,28 @@ module _ (w : ℕ) where
     unfolding place
     place-number stored e = rw e (at-map Number (sample w channel) s at)
 
-    taken-number : (x : Answer ℤ) → taken (mapped Number x) ≡ numbered (sampled x)
-    unfolding sampled taken mapped
-    taken-number (ok u m) = refl
-    taken-number short = refl
-    taken-number (bad k p) = refl
+    read-number : (x : Answer ℤ) → placeRead (mapped Number x) ≡ numbered (sampled x)
+    unfolding sampled placeRead mapped
+    read-number (ok u m) = refl
+    read-number short = refl
+    read-number (bad k p) = refl
 
     pub place-stored : (stored : Bool) {x : Sample} → stored ≡ true → sampled (readAt (sample w channel) s at) ≡ x
-        → taken (readAt (place w channel included stored) s at) ≡ numbered x
-    place-stored stored e h = ap taken (place-number stored e) ∙ taken-number (readAt (sample w channel) s at) ∙ ap numbered h
+        → placeRead (readAt (place w channel included stored) s at) ≡ numbered x
+    place-stored stored e h = ap placeRead (place-number stored e) ∙ read-number (readAt (sample w channel) s at) ∙ ap numbered h
 
--- what was taken, taken back to the answer
-pub taken-ok : (x : Answer Place) {v : Place} {n : ℕ} → takes.Took v n ≡ taken x → x ≡ ok v n
-unfolding taken
-taken-ok (ok u m) e = cc
-taken-ok short e = impossible (cc)
-taken-ok (bad k p) e = impossible (cc)
+-- what was read, taken back to the answer
+pub read-ok : (x : Answer Place) {v : Place} {n : ℕ} → reads.Read v n ≡ placeRead x → x ≡ ok v n
+unfolding placeRead
+read-ok (ok u m) e = cc
+read-ok short e = impossible (cc)
+read-ok (bad k p) e = impossible (cc)
 
-pub taken-failed : (x : Answer Place) {f : Failure} → takes.Failed f ≡ taken x → x ≡ failed f
-unfolding taken
-taken-failed (ok v n) e = impossible (cc)
-taken-failed short {f} e = ap failed {x = Short} {y = f} (cc)
-taken-failed (bad k p) {f} e = ap failed {x = Bad k p} {y = f} (cc)
+pub read-failed : (x : Answer Place) {f : Failure} → reads.Failed f ≡ placeRead x → x ≡ failed f
+unfolding placeRead
+read-failed (ok v n) e = impossible (cc)
+read-failed short {f} e = ap failed {x = Short} {y = f} (cc)
+read-failed (bad k p) {f} e = ap failed {x = Bad k p} {y = f} (cc)
 
 -- ---- All sixteen
 
@@ -180,8 +180,8 @@ module _ (w : ℕ) (included stored : List Bool) (s : List ℕ) (start : ℕ) wh
     this : readAt (placeOf w (getD all i unflagged)) s at ≡ here
     this = let z : 0 + i ≡ i = omega arith in ap (λ f. readAt (placeOf w f) s at) (rw z at (nth-flagged stored included 0 i h))
 
-    pub set-more : {v : Place} {n : ℕ} → i < length a → takes.Took v n ≡ taken here → SoFar (set a i v) (i + 1) n
-    set-more q e = gathered-more all _ s start unflagged a i at inside g q (this ∙ taken-ok _ e)
+    pub set-more : {v : Place} {n : ℕ} → i < length a → reads.Read v n ≡ placeRead here → SoFar (set a i v) (i + 1) n
+    set-more q e = gathered-more all _ s start unflagged a i at inside g q (this ∙ read-ok _ e)
 
-    pub set-failed : {f : Failure} → takes.Failed f ≡ taken here → placesIn included stored (readAt (point w stored) s start) ≡ nowhere
-    set-failed {f} e = no-point _ f (set-all ∙ gathered-failed all _ s start unflagged a i at inside g f (this ∙ taken-failed _ e))
+    pub set-failed : {f : Failure} → reads.Failed f ≡ placeRead here → placesIn included stored (readAt (point w stored) s start) ≡ nowhere
+    set-failed {f} e = no-point _ f (set-all ∙ gathered-failed all _ s start unflagged a i at inside g f (this ∙ read-failed _ e))

@@ -17,8 +17,8 @@ use Rattle.points.specs.Points.{sample}
 use Rattle.points.specs.Places.{unstored}
 use Rattle.points.specs.declared.Sample.{Sample}
 use Rattle.points.specs.declared.Sample.the-variants as samples
-use Rattle.points.specs.declared.Taken.{Taken}
-use Rattle.points.specs.declared.Taken.the-variants as takes
+use Rattle.points.specs.declared.PlaceRead.{PlaceRead}
+use Rattle.points.specs.declared.PlaceRead.the-variants as reads
 
 -- a number and the place after it
 unfoldable pub sampled : Answer ℤ → Sample
@@ -31,10 +31,10 @@ unfoldable pub place : (w channel : ℕ) (included stored : Bool) → Reader Pla
 place w channel included stored = cond stored (map Number (sample w channel)) (done (unstored included))
 
 -- a place of a point and where its bytes end
-unfoldable pub taken : Answer Place → Taken
-taken (ok v n) = takes.Took v n
-taken short = takes.Failed Short
-taken (bad k p) = takes.Failed (Bad k p)
+unfoldable pub placeRead : Answer Place → PlaceRead
+placeRead (ok v n) = reads.Read v n
+placeRead short = reads.Failed Short
+placeRead (bad k p) = reads.Failed (Bad k p)
 
 -- where a point of some width ends, of whose bytes only the switch, at an offset, can be refused
 unfoldable pub switched : List ℕ → (at width offset : ℕ) → Outcome

@@ -7,15 +7,14 @@ use formats::Outcome;
 ghost use mathlib.Core.Path.{_≡_};
 ghost use Prim.Native.Nat.{ℕ, _+_, _*_, _≤_, _<_};
 ghost use lib.ListN.{length, drop};
-ghost use Rattle.formats.specs.Reader.{readAt, times, ok};
-ghost use Rattle.formats.specs.Number.{number as numberReader};
+ghost use Rattle.formats.specs.Reader.{readAt, times};
 ghost use Rattle.formats.specs.Told.{told, repeated};
 ghost use Rattle.formats.specs.Jump.{ends};
 ghost use Rattle.formats.specs.declared.Outcome.the-variants.{Failed};
 ghost use Rattle.channels.specs.Channel.{widthOf};
 ghost use Rattle.points.specs.Points.{storedFrom, sample, point, sampleSize, widths, width as pointWidth};
 ghost use Rattle.points.specs.Places.{placesIn};
-ghost use Rattle.points.specs.Parts.{sampled, taken, place, switched};
+ghost use Rattle.points.specs.Parts.{sampled, placeRead, place, switched};
 
 // How many bytes a channel's number has in a sample point: one for S, as many as the format says for any other.
 fn sample_size(format: Format, channel: usize) -> usize
@@ -153,17 +152,6 @@ pub fn judge(
     Outcome::Failed(Failure::Short)
 }
 
-// A number in one byte or two, which are there.
-fn number_at(bytes: &[u8], at: usize, format: Format) -> u16
-    requires { ⌜ at + widthOf format ≤ length (now bytes) ⌝ }
-    ensures { λ r. ⌜ readAt (numberReader (widthOf format)) (now (bytes .entry)) at ≡ ok r (at + widthOf format) ⌝ }
-{
-    match format {
-        Format::Full => formats::pair(bytes[at], bytes[at + 1]),
-        Format::Compact => formats::pair(0, bytes[at]),
-    }
-}
-
 // What a sample point holds of a channel and where that ends, or how reading it fails.
 enum Sample {
     Number { value: i32, next: usize },
@@ -190,7 +178,7 @@ fn sample_at(bytes: &[u8], at: usize, format: Format, channel: usize) -> Sample
         if bytes.len() - at < size {
             return Sample::Failed(Failure::Short);
         }
-        let number = number_at(bytes, at, format);
+        let number = channels::number_at(bytes, at, format);
         let value = channels::value_of(format, channels::is_signed(channel), number);
         Sample::Number {
             value: value,
@@ -200,8 +188,8 @@ fn sample_at(bytes: &[u8], at: usize, format: Format, channel: usize) -> Sample
 }
 
 // What a sample point says of a channel and where that ends, or how reading it fails.
-pub enum Taken {
-    Took { place: Place, next: usize },
+pub enum PlaceRead {
+    Read { place: Place, next: usize },
     Failed(Failure),
 }
 
@@ -213,16 +201,16 @@ pub fn place_at(
     channel: usize,
     included: bool,
     stored: bool,
-) -> Taken
-    ensures { λ r. ⌜ r ≡ taken (readAt (place (widthOf format) channel included stored) (now (bytes .entry)) at) ⌝ }
+) -> PlaceRead
+    ensures { λ r. ⌜ r ≡ placeRead (readAt (place (widthOf format) channel included stored) (now (bytes .entry)) at) ⌝ }
 {
     if stored {
         match sample_at(bytes, at, format, channel) {
-            Sample::Number { value, next } => Taken::Took {
+            Sample::Number { value, next } => PlaceRead::Read {
                 place: Place::Number(value),
                 next: next,
             },
-            Sample::Failed(failure) => Taken::Failed(failure),
+            Sample::Failed(failure) => PlaceRead::Failed(failure),
         }
     } else {
         let place = if included {
@@ -230,7 +218,7 @@ pub fn place_at(
         } else {
             Place::Absent
         };
-        Taken::Took {
+        PlaceRead::Read {
             place: place,
             next: at,
         }
@@ -252,7 +240,7 @@ pub fn places(
     let mut at = start;
     let mut channel: usize = 0;
     while channel < 16 {
-        let taken = place_at(
+        let found = place_at(
             bytes,
             at,
             format,
@@ -260,7 +248,7 @@ pub fn places(
             included[channel],
             stored[channel],
         );
-        let Taken::Took { place, next } = taken else {
+        let PlaceRead::Read { place, next } = found else {
             places = [Place::Absent; 16];
             return places;
         };

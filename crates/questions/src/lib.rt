@@ -2,9 +2,9 @@
 mod thousandths;
 mod writing;
 
-use records::Pointed;
+use hex::Amount;
+use record_parts::Pointed;
 use refusals::Judgement;
-use words::hex::Amount;
 
 const JUDGE: usize = 0;
 
@@ -60,7 +60,7 @@ fn of_number_and_bytes(
     line: &[u8],
     at: usize,
 ) -> u16 {
-    let number = words::numbers::natural_at(line, at, 18446744073709551615);
+    let number = numerals::natural_at(line, at, 18446744073709551615);
     if number.reason != words::NO_REASON {
         return answers::cannot(text, used, number.reason);
     }
@@ -75,7 +75,7 @@ fn of_number_and_bytes(
 }
 
 fn rest_of(line: &[u8], at: usize, space: &mut [u8; 131072]) -> Amount {
-    words::hex::bytes_in(words::part(line, at, line.len()), space)
+    hex::bytes_in(words::part(line, at, line.len()), space)
 }
 
 // The first bytes of some that were lent.
@@ -104,8 +104,8 @@ fn of_bytes(
 fn ask(text: &mut [u8; 65536], used: u16, question: usize, index: usize, bytes: &[u8]) -> u16 {
     match question {
         JUDGE..=WHOLE => judge(text, used, bytes, question == WHOLE),
-        EXTENDED => put_bytes(text, used, records::extended(bytes)),
-        REST => put_bytes(text, used, records::rest(bytes)),
+        EXTENDED => put_bytes(text, used, record_parts::extended(bytes)),
+        REST => put_bytes(text, used, record_parts::rest(bytes)),
         POINT => point(text, used, bytes, index),
         STEP => step(text, used, bytes, index),
         _ => template(text, used, bytes),
@@ -115,9 +115,9 @@ fn ask(text: &mut [u8; 65536], used: u16, question: usize, index: usize, bytes: 
 // Where there is no record the description says nothing of any channel, and no word of it is put.
 fn judge(text: &mut [u8; 65536], start: u16, bytes: &[u8], whole: bool) -> u16 {
     let judged = if whole {
-        records::judge_whole(bytes)
+        record_reading::judge_whole(bytes)
     } else {
-        records::judge(bytes)
+        record_reading::judge(bytes)
     };
     let verdict = judged.verdict;
     let used = answers::put(text, start, answers::of_verdict(verdict));
@@ -130,10 +130,10 @@ fn put_bytes(text: &mut [u8; 65536], start: u16, bytes: &[u8]) -> u16 {
 }
 
 fn point(text: &mut [u8; 65536], start: u16, bytes: &[u8], index: usize) -> u16 {
-    let pointed = records::judge_point(bytes, index);
+    let pointed = record_parts::judge_point(bytes, index);
     let used = answers::put(text, start, answers::of_pointed(pointed));
     if let Pointed::Point = pointed {
-        return answers::put_places(text, used, records::point(bytes, index));
+        return answers::put_places(text, used, record_parts::point(bytes, index));
     }
     used
 }

@@ -14,11 +14,11 @@ fn put_reading(text: &mut [u8; 65536], start: u16, reading: Reading) -> u16 {
 
 // Raw number, E, F.
 pub(crate) fn raw(text: &mut [u8; 65536], used: u16, line: &[u8], at: usize) -> u16 {
-    let raw = words::numbers::whole_at(line, at);
-    let e = words::numbers::natural_at(line, raw.behind, 18446744073709551615);
-    let f = words::numbers::natural_at(line, e.behind, 18446744073709551615);
-    let end = sayings::fields::first_of(f.reason, sayings::fields::end_at(line, f.behind));
-    let reason = sayings::fields::first_of(raw.reason, sayings::fields::first_of(e.reason, end));
+    let raw = numerals::whole_at(line, at);
+    let e = numerals::natural_at(line, raw.behind, 18446744073709551615);
+    let f = numerals::natural_at(line, e.behind, 18446744073709551615);
+    let end = fields::first_of(f.reason, fields::end_at(line, f.behind));
+    let reason = fields::first_of(raw.reason, fields::first_of(e.reason, end));
     if reason != words::NO_REASON {
         return answers::cannot(text, used, reason);
     }
@@ -31,13 +31,10 @@ pub(crate) fn raw(text: &mut [u8; 65536], used: u16, line: &[u8], at: usize) -> 
 
 // A place of a point, and its channel's scaling value.
 pub(crate) fn place(text: &mut [u8; 65536], used: u16, line: &[u8], at: usize) -> u16 {
-    let placed = sayings::fields::place_at(line, at);
-    let scaling = sayings::fields::scaling_at(line, placed.behind);
-    let end = sayings::fields::first_of(
-        scaling.reason,
-        sayings::fields::end_at(line, scaling.behind),
-    );
-    let reason = sayings::fields::first_of(placed.reason, end);
+    let placed = fields::place_at(line, at);
+    let scaling = fields::scaling_at(line, placed.behind);
+    let end = fields::first_of(scaling.reason, fields::end_at(line, scaling.behind));
+    let reason = fields::first_of(placed.reason, end);
     if reason != words::NO_REASON {
         return answers::cannot(text, used, reason);
     }

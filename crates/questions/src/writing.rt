@@ -2,8 +2,8 @@
 ghost use Prim.Native.Nat.{_≤_};
 use answers::Answer;
 use channels::Description;
-use sayings::fields::Template;
-use sayings::fields::Wanted;
+use fields::Template;
+use fields::Wanted;
 
 // The first of some values.
 fn first<'a>(values: &'a [i32; 131072], count: usize) -> &'a [i32] {
@@ -18,8 +18,8 @@ fn first<'a>(values: &'a [i32; 131072], count: usize) -> &'a [i32] {
 pub(crate) fn write(text: &mut [u8; 65536], used: u16, line: &[u8], at: usize) -> u16 {
     let mut values = [0; 131072];
     let mut space = [0; 131072];
-    let wanted = sayings::fields::record_at(line, at, &mut values, &mut space);
-    let reason = sayings::fields::first_of(wanted.reason, sayings::reason_at(line, wanted.behind));
+    let wanted = fields::record_at(line, at, &mut values, &mut space);
+    let reason = fields::first_of(wanted.reason, sayings::reason_at(line, wanted.behind));
     if reason != words::NO_REASON {
         return answers::cannot(text, used, reason);
     }
@@ -76,11 +76,8 @@ fn put(text: &mut [u8; 65536], start: u16, answer: Answer, out: &[u8; 131072], r
 
 // What `template_at` reads, and channels.
 pub(crate) fn write_template(text: &mut [u8; 65536], used: u16, line: &[u8], at: usize) -> u16 {
-    let template = sayings::fields::template_at(line, at);
-    let reason = sayings::fields::first_of(
-        template.reason,
-        sayings::reason_at(line, template.behind),
-    );
+    let template = fields::template_at(line, at);
+    let reason = fields::first_of(template.reason, sayings::reason_at(line, template.behind));
     if reason != words::NO_REASON {
         return answers::cannot(text, used, reason);
     }

@@ -15,7 +15,7 @@ use Rattle.channels.specs.declared.Description.{Description}
 use Rattle.refusals.specs.Stages.{orElse}
 use Rattle.refusals.specs.declared.Refusal.{Refusal}
 use Rattle.refusals.specs.declared.Judgement.the-variants.{Refused}
-use Rattle.description_writing.specs.Write as described
+use Rattle.description_judging.specs.Judging as described
 use Rattle.records.specs.Record.{encodeExtended}
 use Rattle.record_writing.specs.Write.{judgementOf, putWhere, writeOf, openingBytes}
 use Rattle.record_writing.specs.declared.Written.the-variants as answers

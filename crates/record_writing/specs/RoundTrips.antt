@@ -20,16 +20,16 @@ use Rattle.refusals.specs.declared.Refusal.the-variants.{Room}
 use Rattle.refusals.specs.declared.Judgement.{Judgement}
 use Rattle.refusals.specs.declared.Judgement.the-variants.{Passed, Refused}
 use Rattle.channels.specs.declared.Description.{Description}
-use Rattle.description_writing.specs.WriteLaws.{valid-passed}
+use Rattle.description_judging.specs.JudgingLaws.{valid-passed}
 use Rattle.values.specs.Values.{size}
 use Rattle.values.specs.OrderLaws.{points-many, row-points, valid-sizes, row-fits}
 use Rattle.values.specs.declared.Order.the-variants.{Point}
-use Rattle.records.specs.Record.{Record, fullRecord, encode, stored, ValidExtended, Valid}
+use Rattle.records.specs.Record.{Record, fullRecord, encode, stored, ValidExtended, Valid, present, extendedBytes}
 use Rattle.records.specs.Demands.{read-after-write, write-after-read}
-use Rattle.records.specs.Verdict.{present, extendedBytes, verdictFrom, descriptionIn, judged}
+use Rattle.record_reading.specs.Verdict.{verdictFrom, descriptionIn, judged}
 use Rattle.record_writing.specs.Write.{recordOf, judgementOf, Passes, putWhere, writeOf}
 use Rattle.record_writing.specs.WriteLaws.{passes, passes-valid, passing}
-use Rattle.records.specs.declared.Verdict.the-variants as verdict
+use Rattle.record_reading.specs.declared.Verdict.the-variants as verdict
 use Rattle.record_writing.specs.declared.Written.the-variants as written
 
 -- ---- Some small facts

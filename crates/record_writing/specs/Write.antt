@@ -16,7 +16,7 @@ use Rattle.refusals.specs.declared.Refusal.the-variants.{OutOfRange, ExtendedSi
 use Rattle.refusals.specs.declared.Judgement.{Judgement}
 use Rattle.refusals.specs.declared.Judgement.the-variants as judgement
 use Rattle.channels.specs.declared.Description.{Description}
-use Rattle.description_writing.specs.Write as described
+use Rattle.description_judging.specs.Judging as described
 use Rattle.values.specs.Values as values
 use Rattle.values.specs.Values.{size, pointsOf}
 use Rattle.values.specs.declared.Order.the-variants.{Point}

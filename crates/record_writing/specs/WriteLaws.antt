@@ -23,8 +23,8 @@ use Rattle.values.specs.Values.{size, pointsOf}
 use Rattle.values.specs.OrderLaws.{points-many, fits-valid, fits-length}
 use Rattle.values.specs.declared.Order.the-variants.{Point}
 use Rattle.descriptions.specs.Description.{encodeDescription}
-use Rattle.description_writing.specs.Write as described
-use Rattle.description_writing.specs.WriteLaws.{passed-valid}
+use Rattle.description_judging.specs.Judging as described
+use Rattle.description_judging.specs.JudgingLaws.{passed-valid}
 use Rattle.records.specs.Record.{Record, identifierBytes, versionBytes, stored, openingByte, encodeExtended, encode, ValidExtended, Valid}
 use Rattle.record_writing.specs.Write.{recordOf, countStage, extendedStage, numbersJudged, judgementOf, openingBytes, frontBytes, Passes}
 

@@ -17,7 +17,7 @@ ghost use Rattle.formats.specs.Laid.{Room, Laid};
 ghost use Rattle.formats.specs.Lent.{writing};
 ghost use Rattle.descriptions.specs.Description.{description, isStored, encodeDescription};
 ghost use Rattle.refusals.specs.declared.Judgement.the-variants.{Passed};
-ghost use Rattle.description_writing.specs.Write.{judgementOf};
+ghost use Rattle.description_judging.specs.Judging.{judgementOf};
 ghost use Rattle.records.specs.Record.{encodeExtended, encode};
 ghost use Rattle.record_writing.specs.Write.{openingBytes, frontBytes, recordOf, numbersJudged, Passes, writeOf};
 
@@ -39,16 +39,6 @@ fn stored_channels(d: Description) -> [bool; 16]
 pub enum Written {
     Record { length: usize },
     Refused(Refusal),
-}
-
-// Two bytes are put, the high one first; this and each that follows answers where the next goes.
-fn put_pair(out: &mut [u8], at: usize, number: u16) -> usize
-    requires { ⌜ Room (now out) at (digits 2 number) ⌝ }
-    ensures { λ r. ⌜ Laid (now (out .entry)) at (digits 2 number) (now (out .exit)) r ⌝ }
-{
-    out[at] = formats::high(number);
-    out[at + 1] = formats::low(number as u32);
-    at + 2
 }
 
 // The header's reserved byte, the opening byte and the count are put.
@@ -85,7 +75,7 @@ fn put_extension(out: &mut [u8], at: usize, wanted: bool, extended: &[u8]) -> us
     if !wanted {
         return at;
     }
-    let next = put_pair(out, at, extended.len() as u16);
+    let next = channels::put_number(out, at, extended.len() as u16, Format::Full);
     formats::put(out, next, extended)
 }
 

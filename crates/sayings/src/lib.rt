@@ -3,10 +3,8 @@ ghost use mathlib.Core.Path.{_≡_};
 ghost use mathlib.Core.Bool.{false};
 ghost use mathlib.Core.Logic.{_⊎_};
 ghost use Rattle.descriptions.specs.Read.{nothing};
-ghost use Rattle.sayings.specs.Silent.{Blank, Silent};
-
-pub mod fields;
-
+ghost use Rattle.words.specs.Places.{Blank};
+ghost use Rattle.sayings.specs.Silent.{Silent};
 use channels::Attribute;
 use channels::Description;
 use channels::Descriptor;
@@ -78,7 +76,7 @@ fn thing_in(text: &[u8]) -> Thing {
     let equals = words::seek(sentence, 0, b'=');
     let thing = thing_of(words::part(sentence, 0, equals));
     let behind = words::part(sentence, equals, sentence.len());
-    let number = words::numbers::small_in(words::part(behind, 1, behind.len()));
+    let number = numerals::small_in(words::part(behind, 1, behind.len()));
     Thing {
         good: if thing < CONSTANT {
             number.good

@@ -16,7 +16,7 @@ use Rattle.refusals.specs.Stages.{orElse, stages}
 use Rattle.refusals.specs.declared.Refusal.{Refusal}
 use Rattle.refusals.specs.declared.Judgement.{Judgement}
 use Rattle.refusals.specs.declared.Judgement.the-variants as judgement
-use Rattle.description_writing.specs.Write as judging
+use Rattle.description_judging.specs.Judging as judging
 use Rattle.template_writing.specs.declared.Written.the-variants as answers
 use Rattle.templates.specs.Template.{field, fewest, shortest, encodeDescribed, encodeLimited, encode}
 use Rattle.templates.specs.EncodedLaws.{one-byte, two-bytes, three-bytes}

@@ -11,7 +11,7 @@ use Rattle.refusals.specs.declared.Refusal.the-variants.{OutOfRange, Room}
 use Rattle.refusals.specs.declared.Judgement.{Judgement}
 use Rattle.refusals.specs.declared.Judgement.the-variants as judgement
 use Rattle.channels.specs.declared.Description.{Description}
-use Rattle.description_writing.specs.Write as judging
+use Rattle.description_judging.specs.Judging as judging
 use Rattle.templates.specs.Template.{field, encodeLimited, encode}
 use Rattle.templates.specs.Reading.{saying}
 use Rattle.template_writing.specs.declared.Written.{Written}

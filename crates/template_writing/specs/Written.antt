@@ -17,7 +17,7 @@ use Rattle.refusals.specs.declared.Refusal.{Refusal}
 use Rattle.refusals.specs.declared.Refusal.the-variants.{Room}
 use Rattle.refusals.specs.declared.Judgement.{Judgement}
 use Rattle.refusals.specs.declared.Judgement.the-variants as judgement
-use Rattle.description_writing.specs.WriteLaws.{passed-valid, valid-passed}
+use Rattle.description_judging.specs.JudgingLaws.{passed-valid, valid-passed}
 use Rattle.templates.specs.declared.Template.{Template}
 use Rattle.template_writing.specs.declared.Written.the-variants.{Done, Refused}
 use Rattle.templates.specs.Template.{encodeDescribed, encodeLimited, encode, Describes, Limits}

@@ -1,12 +1,17 @@
 // Text that a program gathers and writes out: bytes, numbers in decimal, bytes in hex.
 // Each function takes the text and how many bytes are gathered, and answers how many are gathered then.
 // Sixteen bits count them, so that there is always room for one more.
+// What the text holds then is promised. What standard output receives is not: no contract can say it.
 ghost use mathlib.Core.Path.{_≡_};
-ghost use Prim.Native.Nat.{_+_, _^_, _<_};
+ghost use Prim.Native.Nat.{_+_, _<_};
 ghost use lib.IntN.{natAbs};
+ghost use Rattle.texts.specs.Gathered.{gathered, joins, joinsAll, roomFrom};
+ghost use Rattle.texts.specs.Digits.{digitCount, joinsNumber, joinsField, joinsLong, hexDigit, hexWord};
 
 // A byte joins the text, which is written out when it has filled its array.
-pub fn put(text: &mut [u8; 65536], used: u16, byte: u8) -> u16 {
+pub fn put(text: &mut [u8; 65536], used: u16, byte: u8) -> u16
+    ensures { λ r. ⌜ gathered (now (text .exit)) r ≡ joins (gathered (now (text .entry)) used) byte ⌝ }
+{
     let at = used as usize;
     text[at] = byte;
     if used == 65535 {
@@ -17,7 +22,9 @@ pub fn put(text: &mut [u8; 65536], used: u16, byte: u8) -> u16 {
 }
 
 // Bytes join the text one by one.
-fn put_each(text: &mut [u8; 65536], start: u16, bytes: &[u8]) -> u16 {
+fn put_each(text: &mut [u8; 65536], start: u16, bytes: &[u8]) -> u16
+    ensures { λ r. ⌜ gathered (now (text .exit)) r ≡ joinsAll (gathered (now (text .entry)) start) (now (bytes .entry)) ⌝ }
+{
     let mut used = start;
     let mut i: usize = 0;
     while i < bytes.len() {
@@ -28,7 +35,9 @@ fn put_each(text: &mut [u8; 65536], start: u16, bytes: &[u8]) -> u16 {
 }
 
 // Where the bytes do not fill the text this is asked once, and not for each of them.
-pub fn put_bytes(text: &mut [u8; 65536], start: u16, bytes: &[u8]) -> u16 {
+pub fn put_bytes(text: &mut [u8; 65536], start: u16, bytes: &[u8]) -> u16
+    ensures { λ r. ⌜ gathered (now (text .exit)) r ≡ joinsAll (gathered (now (text .entry)) start) (now (bytes .entry)) ⌝ }
+{
     let first = start as usize;
     if 65535 - first < bytes.len() {
         return put_each(text, start, bytes);
@@ -43,7 +52,7 @@ pub fn put_bytes(text: &mut [u8; 65536], start: u16, bytes: &[u8]) -> u16 {
 
 // How many digits a number has. Sixty-four bits hold none of more than twenty.
 fn digit_count(number: u64) -> usize
-    ensures { λ r. ⌜ (0 < r) × (r < 21) × (number < 10 ^ r) ⌝ }
+    ensures { λ r. ⌜ (r ≡ digitCount number) × (0 < r) × (r < 21) ⌝ }
 {
     let mut count: usize = 1;
     let mut limit: u64 = 10;
@@ -59,7 +68,7 @@ fn digit_count(number: u64) -> usize
 
 // Twenty bytes have room in the text, which is written out where they have not.
 fn room(text: &[u8; 65536], used: u16) -> u16
-    ensures { λ r. ⌜ r + 20 < 65536 ⌝ }
+    ensures { λ r. ⌜ (r ≡ roomFrom used) × (r + 20 < 65536) ⌝ }
 {
     if 65515 < used {
         write_out(text, used);
@@ -69,7 +78,9 @@ fn room(text: &[u8; 65536], used: u16) -> u16
 }
 
 // The digits are put where they belong at once, the last one first: each takes one division.
-pub fn put_number(text: &mut [u8; 65536], start: u16, number: u64) -> u16 {
+pub fn put_number(text: &mut [u8; 65536], start: u16, number: u64) -> u16
+    ensures { λ r. ⌜ gathered (now (text .exit)) r ≡ joinsNumber (gathered (now (text .entry)) start) number ⌝ }
+{
     let first = room(text, start) as usize;
     let end = first + digit_count(number);
     let mut at = end;
@@ -83,7 +94,9 @@ pub fn put_number(text: &mut [u8; 65536], start: u16, number: u64) -> u16 {
 }
 
 // A number as a field of a line: a space stands before it.
-pub fn put_field(text: &mut [u8; 65536], start: u16, number: u64) -> u16 {
+pub fn put_field(text: &mut [u8; 65536], start: u16, number: u64) -> u16
+    ensures { λ r. ⌜ gathered (now (text .exit)) r ≡ joinsField (gathered (now (text .entry)) start) number ⌝ }
+{
     let used = put(text, start, b' ');
     put_number(text, used, number)
 }
@@ -101,7 +114,9 @@ fn magnitude(value: i64) -> u64
     value as u64
 }
 
-pub fn put_long(text: &mut [u8; 65536], start: u16, value: i64) -> u16 {
+pub fn put_long(text: &mut [u8; 65536], start: u16, value: i64) -> u16
+    ensures { λ r. ⌜ gathered (now (text .exit)) r ≡ joinsLong (gathered (now (text .entry)) start) value ⌝ }
+{
     let mut used = start;
     if value < 0 {
         used = put(text, used, b'-');
@@ -109,12 +124,16 @@ pub fn put_long(text: &mut [u8; 65536], start: u16, value: i64) -> u16 {
     put_number(text, used, magnitude(value))
 }
 
-pub fn put_value(text: &mut [u8; 65536], used: u16, value: i32) -> u16 {
+pub fn put_value(text: &mut [u8; 65536], used: u16, value: i32) -> u16
+    ensures { λ r. ⌜ gathered (now (text .exit)) r ≡ joinsLong (gathered (now (text .entry)) used) value ⌝ }
+{
     put_long(text, used, value as i64)
 }
 
 // The hex digit of a number below 16, in a capital letter.
-fn hex_digit(number: u8) -> u8 {
+fn hex_digit(number: u8) -> u8
+    ensures { λ r. ⌜ r ≡ hexDigit number ⌝ }
+{
     match number {
         0 => b'0',
         1 => b'1',
@@ -136,7 +155,9 @@ fn hex_digit(number: u8) -> u8 {
 }
 
 // Bytes as pairs of hex digits, or `-` where there are none.
-pub fn put_hex(text: &mut [u8; 65536], start: u16, bytes: &[u8]) -> u16 {
+pub fn put_hex(text: &mut [u8; 65536], start: u16, bytes: &[u8]) -> u16
+    ensures { λ r. ⌜ gathered (now (text .exit)) r ≡ joinsAll (gathered (now (text .entry)) start) (hexWord (now (bytes .entry))) ⌝ }
+{
     if bytes.len() == 0 {
         return put(text, start, b'-');
     }
@@ -151,7 +172,7 @@ pub fn put_hex(text: &mut [u8; 65536], start: u16, bytes: &[u8]) -> u16 {
     used
 }
 
-// What is gathered is written out.
+// What is gathered is written out. The text is lent to be read, so it stays as it was; there is no more that a contract can say.
 pub fn write_out(text: &[u8; 65536], used: u16) {
     let bytes: &[u8] = text;
     let end = used as usize;

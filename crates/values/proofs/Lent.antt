@@ -10,7 +10,6 @@ use lib.Dec.{eqb, leb}
 use lib.IntN.{ℤ, pos}
 use lib.ListN.{length, getD, drop}
 use Rattle.formats.specs.Bytes.{impossible}
-use Rattle.formats.specs.Number.{digits}
 use Rattle.formats.specs.Writes.{encodeEach}
 use Rattle.formats.specs.Put.{puts}
 use Rattle.formats.specs.Lent.{Writing, writing}
@@ -25,7 +24,7 @@ use Rattle.channels.specs.Stored.{fits, storedOf, storedIf}
 use Rattle.channels.specs.Switch.{isState, byteOf, byteIf}
 use Rattle.channels.specs.declared.Stored.the-variants.{Number, Outside}
 use Rattle.points.specs.Points.{storedFrom, channels, fitsSample, width}
-use Rattle.values.specs.Values.{size, step, stride, numbersFrom, pointsFrom, pointsOf, judgePoint, judgeFrom, judgementOf, storedSample, numberIn, sampleBytes, bytesOf, putOf}
+use Rattle.values.specs.Values.{size, step, stride, numbersFrom, pointsFrom, pointsOf, judgePoint, judgeFrom, judgementOf, storedSample, sampleBytes, bytesOf, putOf}
 use Rattle.values.specs.OrderLaws.{points-bytes}
 use Rattle.values.specs.Parts.{AllAt, Inside, pointBytes, pointsBytes, many, bytesLeft}
 use Rattle.values.specs.declared.Order.{Order}
@@ -68,15 +67,6 @@ module _ (w channel : ℕ) (v : ℤ) where
       go true false b q = refl
       go false a true q = impossible (cc)
       go false a false q = refl
-
-  -- and its bytes
-  pub bytes-switch : channel ≡ S → sampleBytes w channel v ≡ digits 1 (numberIn (storedSample w channel v))
-  unfolding sampleBytes
-  bytes-switch e = ap (λ t. digits (cond t 1 w) (numberIn (storedSample w channel v))) (eq-eqb channel S e)
-
-  pub bytes-other : (channel ≡ S → ⊥) → sampleBytes w channel v ≡ digits w (numberIn (storedSample w channel v))
-  unfolding sampleBytes
-  bytes-other e = ap (λ t. digits (cond t 1 w) (numberIn (storedSample w channel v))) (ne-eqb channel S e)
 
 -- ---- Indices a stride apart
 

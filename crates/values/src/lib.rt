@@ -8,11 +8,10 @@ ghost use mathlib.Core.Path.{_≡_};
 ghost use Prim.Native.Nat.{_+_, _*_, _≤_, _<_};
 ghost use lib.Dec.{eqb};
 ghost use lib.ListN.{length};
-ghost use Rattle.formats.specs.Number.{digits};
 ghost use Rattle.formats.specs.Laid.{Room, Laid, Owed};
 ghost use Rattle.formats.specs.Lent.{writing};
 ghost use Rattle.channels.specs.Channel.{signs as signTable, widthOf};
-ghost use Rattle.points.specs.Points.{channels as channelsOf};
+ghost use Rattle.points.specs.Points.{sampleSize, channels as channelsOf};
 ghost use Rattle.values.specs.Values as lent;
 ghost use Rattle.values.specs.Values.{judgePoint, judgeFrom, judgementOf, storedSample, numberIn, sampleBytes, putOf};
 ghost use Rattle.values.specs.Parts.{AllAt, Inside, pointBytes, pointsBytes, many, bytesLeft};
@@ -165,24 +164,6 @@ pub fn judge(
     judge_from(values, count, step, stride, format, &stored, &signs)
 }
 
-// A stored number is put, the high byte first; this and each that follows answers where the next goes.
-fn put_number(out: &mut [u8], at: usize, number: u16, format: Format) -> usize
-    requires { ⌜ Room (now out) at (digits (widthOf format) number) ⌝ }
-    ensures { λ r. ⌜ Laid (now (out .entry)) at (digits (widthOf format) number) (now (out .exit)) r ⌝ }
-{
-    match format {
-        Format::Full => {
-            out[at] = formats::high(number);
-            out[at + 1] = formats::low(number as u32);
-            at + 2
-        }
-        Format::Compact => {
-            out[at] = formats::low(number as u32);
-            at + 1
-        }
-    }
-}
-
 // The stored number, and 0 where there is none.
 fn number_in(stored: Stored) -> u16
     ensures { λ r. ⌜ r ≡ numberIn stored ⌝ }
@@ -193,7 +174,18 @@ fn number_in(stored: Stored) -> u16
     }
 }
 
-// A number of a sample point is put: S in one byte, as a compact number is, any other as the format says.
+// The format that a channel's number is put in: S has one byte, as a compact number has.
+fn sample_format(format: Format, channel: usize) -> Format
+    ensures { λ r. ⌜ widthOf r ≡ sampleSize (widthOf format) channel ⌝ }
+{
+    if channel == channels::S {
+        return Format::Compact;
+    }
+    format
+}
+
+// A number of a sample point is put, and where the next goes is answered, as by each function that follows.
+// It is handed the very bytes that it has: so the compiler sees that there is room.
 fn put_sample(
     out: &mut [u8],
     at: usize,
@@ -206,10 +198,10 @@ fn put_sample(
     ensures { λ r. ⌜ Laid (now (out .entry)) at (sampleBytes (widthOf format) channel value) (now (out .exit)) r ⌝ }
 {
     let number = number_in(stored_sample(format, channel, value, signs));
-    if channel == channels::S {
-        return put_number(out, at, number, Format::Compact);
-    }
-    put_number(out, at, number, format)
+    let narrow = sample_format(format, channel);
+    let end = at + channels::width(narrow);
+    channels::put_number(&mut out[at..end], 0, number, narrow);
+    end
 }
 
 // Where the next number is put, and which value it is.

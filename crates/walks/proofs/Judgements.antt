@@ -10,9 +10,9 @@ use Rattle.formats.specs.Bytes.{impossible}
 use Rattle.formats.specs.Reader.{Answer, ok, short, bad, readAt}
 use Rattle.formats.specs.Compose.{at-within}
 use Rattle.records.specs.Record.{Record, fullRecord}
-use Rattle.records.specs.Verdict.{verdictFrom}
-use Rattle.records.specs.declared.Verdict.{Verdict}
-use Rattle.records.specs.declared.Verdict.the-variants as verdict
+use Rattle.record_reading.specs.Verdict.{verdictFrom}
+use Rattle.record_reading.specs.declared.Verdict.{Verdict}
+use Rattle.record_reading.specs.declared.Verdict.the-variants as verdict
 use Rattle.walks.specs.Walk.{stays, stepped, stepOf}
 use Rattle.walks.specs.declared.Found.the-variants as found
 use Rattle.walks.specs.declared.Step.{Step}

@@ -14,11 +14,11 @@ use Rattle.formats.specs.Law.{whole}
 use Rattle.formats.specs.Writes.{All}
 use Rattle.formats.specs.declared.Failure.the-variants.{Short, Bad}
 use Rattle.refusals.specs.Table.{refusalOf}
-use Rattle.records.specs.Record.{Record, fullRecord, IsRecord}
+use Rattle.records.specs.Record.{Record, fullRecord, IsRecord, present}
 use Rattle.records.specs.Demands.{wants, read-after-write, write-after-read}
-use Rattle.records.specs.Verdict.{present, verdictFrom}
-use Rattle.records.specs.declared.Verdict.{Verdict}
-use Rattle.records.specs.declared.Verdict.the-variants as verdict
+use Rattle.record_reading.specs.Verdict.{verdictFrom}
+use Rattle.record_reading.specs.declared.Verdict.{Verdict}
+use Rattle.record_reading.specs.declared.Verdict.the-variants as verdict
 use Rattle.walks.specs.Walk.{stays, stepped, stepOf, recordOf, startOf}
 use Rattle.walks.specs.declared.Found.the-variants as found
 use Rattle.walks.specs.declared.Step.{Step}

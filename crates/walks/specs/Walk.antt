@@ -7,10 +7,10 @@ use lib.Dec.{ltb}
 use lib.ListN.{length, take, getD}
 use denote.Ref.{RefT, now}
 use Rattle.formats.specs.Reader.{readAt}
-use Rattle.records.specs.Record.{fullRecord, IsRecord}
-use Rattle.records.specs.Verdict.{present, verdictFrom}
-use Rattle.records.specs.declared.Verdict.{Verdict}
-use Rattle.records.specs.declared.Verdict.the-variants as verdict
+use Rattle.records.specs.Record.{fullRecord, IsRecord, present}
+use Rattle.record_reading.specs.Verdict.{verdictFrom}
+use Rattle.record_reading.specs.declared.Verdict.{Verdict}
+use Rattle.record_reading.specs.declared.Verdict.the-variants as verdict
 use Rattle.walks.specs.declared.Found.{Found}
 use Rattle.walks.specs.declared.Found.the-variants as found
 use Rattle.walks.specs.declared.Step.{Step}

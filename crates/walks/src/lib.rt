@@ -1,5 +1,5 @@
 // A file of joined records, one record at a time: from a place of the file, and by a walker that keeps the place.
-use records::Verdict;
+use record_reading::Verdict;
 use refusals::Refusal;
 ghost use mathlib.Core.Path.{_≡_};
 ghost use Rattle.walks.specs.Walk.{stays, stepOf, atStart, moved};
@@ -38,7 +38,7 @@ pub fn step_at(file: &[u8], place: usize) -> Step
     if file.len() <= place {
         return stay(Found::End, place);
     }
-    let verdict = records::verdict_at(file, place);
+    let verdict = record_reading::verdict_at(file, place);
     match verdict {
         Verdict::Record {
             length,

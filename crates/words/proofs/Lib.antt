@@ -1,2 +1,2 @@
-mod Signs
+mod Search
 pub mod Words

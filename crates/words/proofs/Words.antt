@@ -15,7 +15,7 @@ split : (a b : ℕ) (test : Bool) → ltb a b ≡ test → (a < b) ⊎ (b ≤ a)
 split a b true e = inl (ltb-true a b e)
 split a b false e = inr (ltb-false a b e)
 
-lt-or-ge : (a b : ℕ) → (a < b) ⊎ (b ≤ a)
+pub lt-or-ge : (a b : ℕ) → (a < b) ⊎ (b ≤ a)
 lt-or-ge a b = split a b (ltb a b) refl
 
 -- a word that begins inside the line has a byte, so its end lies behind its beginning

@@ -1,4 +1,3 @@
 pub mod Names
 pub mod Places
 pub mod Said
-pub mod Told

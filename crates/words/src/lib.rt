@@ -1,14 +1,10 @@
-// Words of a line: where they stand, which of some names they are, the numbers and the bytes that they say.
+// Words of a line: where they stand, how they begin, which of some names they are.
 ghost use mathlib.Core.Path.{_≡_};
-ghost use Prim.Native.Nat.{_-_, _<_};
-ghost use lib.Dec.{eqb};
-ghost use lib.ListN.{getD, take, drop};
+ghost use Prim.Native.Nat.{_-_};
+ghost use lib.ListN.{take, drop};
 ghost use Rattle.words.specs.Places.{Sought, Skipped, Word};
-ghost use Rattle.words.specs.Said.{saysNot, withoutNot, reasonOf};
+ghost use Rattle.words.specs.Said.{beginsWith, saysNot, withoutNot, reasonOf};
 ghost use Rattle.words.specs.Names.{Named, Nth};
-
-pub mod hex;
-pub mod numbers;
 
 // Why a word could not be read; it could, where there is no reason.
 pub const NO_REASON: usize = 0;
@@ -34,7 +30,7 @@ pub fn seek(text: &[u8], from: usize, mark: u8) -> usize
 }
 
 // The first place, from a place on, that holds anything but the mark; or the end.
-pub(crate) fn skip(text: &[u8], from: usize, mark: u8) -> usize
+pub fn skip(text: &[u8], from: usize, mark: u8) -> usize
     ensures { λ r. ⌜ Skipped (now (text .entry)) from mark r ⌝ }
 {
     let mut place = from;
@@ -110,10 +106,9 @@ pub fn name<'a>(names: &'a [u8], mark: u8, number: usize) -> &'a [u8]
     part(names, span.from, span.to)
 }
 
-// Whether a word begins with a mark, which is not the byte 0.
-pub(crate) fn begins(word: &[u8], mark: u8) -> bool
-    requires { ⌜ 0 < mark ⌝ }
-    ensures { λ r. ⌜ r ≡ eqb (getD (now (word .entry)) 0 0) mark ⌝ }
+// Whether a word begins with a mark.
+pub fn begins(word: &[u8], mark: u8) -> bool
+    ensures { λ r. ⌜ r ≡ beginsWith (now (word .entry)) mark ⌝ }
 {
     if word.len() == 0 {
         return false;

@@ -2,8 +2,10 @@
 use mathlib.Core.Path.{_≡_, sym, _∙_}
 use borrow.Author.Needs.{needs}
 use Rattle.channels.specs.Channel.{widthOf}
-use Rattle.description_writing.specs.Write.{judgementOf, putJudged, putIf}
-use Rattle.description_writing.specs.WriteLaws.{passed-sound, put-refused}
+use Rattle.description_judging.specs.Judging.{judgementOf}
+use Rattle.description_judging.specs.JudgingLaws.{passed-sound}
+use Rattle.description_writing.specs.Write.{putJudged, putIf}
+use Rattle.description_writing.specs.WriteLaws.{put-refused}
 use Rattle.description_writing.proofs.put.Statement.{statement}
 use Rattle.description_writing.proofs.put.Tie as tie
 

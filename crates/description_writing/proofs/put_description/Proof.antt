@@ -13,8 +13,9 @@ use Rattle.formats.specs.Laid.{Laid, Owed, laid-length, laid-more, room-first, 
 use Rattle.formats.specs.Number.{digits}
 use Rattle.formats.specs.Writes.{encodeEach}
 use Rattle.channels.specs.Channel.{channels, signedOf, widthOf}
+use Rattle.channels.specs.NumberLaws.{number-laid}
 use Rattle.descriptions.specs.Description.{absent, encodeChannel, encodeDescription, fitsDescriptor, allFit, every}
-use Rattle.description_writing.proofs.Judging.{every-holds}
+use Rattle.description_judging.proofs.Judging.{every-holds}
 use Rattle.description_writing.proofs.Laying.{left, left-next, left-none}
 use Rattle.description_writing.proofs.put_description.Statement.{statement}
 use Rattle.description_writing.proofs.put_description.Tie as tie
@@ -38,8 +39,7 @@ inclusion-requires : tie.Need-inclusion-requires Inv-loop μ-loop
 inclusion-requires c κs = search needs
 
 put-number-requires : tie.Need-put-number-requires Inv-loop μ-loop
-unfolding widthOf encodeDescription
-put-number-requires c κs = rw (c .inclusion .ensures) (room-first _ _ (c .before .before .before .before .pre .1))
+put-number-requires c κs = search needs
 
 -- the inclusion bits are laid
 module _ (n : tie.After-put-number Inv-loop μ-loop) where
@@ -47,8 +47,8 @@ module _ (n : tie.After-put-number Inv-loop μ-loop) where
   start = n .before .before .before .before .before
 
   laid : Laid (start .args .out .now) (start .args .start) (digits 2 (binary (map (λ d. d .included) (start .args .t3 .channels)))) (n .put-number .last .0) (n .put-number .result)
-  unfolding widthOf
-  laid = rw (n .before .inclusion .ensures) at (n .put-number .ensures)
+  unfolding widthOf encodeDescription
+  laid = number-laid 2 _ _ _ (room-first _ _ (start .pre .1)) (rw (n .before .inclusion .ensures) at (n .put-number .ensures))
 
 loop-holds : tie.Need-loop-holds Inv-loop μ-loop
 unfolding allFit left

@@ -1,16 +1,20 @@
 -- `descriptions::attribute_at` meets its contract: a number and what it stands for, or nothing.
 use mathlib.Core.Path.{_≡_, sym, ap, _∙_}
 use mathlib.Core.Bool.{Bool, true, cond}
-use Prim.Native.Nat.{_+_}
+use Prim.Native.Nat.{_+_, _≤_}
 use native.Mathlib.Omega.{arith}
 use borrow.Author.Needs.{needs}
 use borrow.Author.Tests.{not-true, not-false}
 use lib.IntN.{pos, _+ℤ_}
+use lib.ListN.{length}
 use mir.Syntax.{w32}
 use mir.Val.{SFits, toZ, ofZ}
 use mir.ValLaws.{toZ-pos, toZ-ofZ}
+use Rattle.formats.specs.Number as reader
+use Rattle.formats.specs.Reader.{ok, readAt}
 use Rattle.channels.proofs.Numbers.{value-fits}
 use Rattle.channels.specs.Channel.{widthOf}
+use Rattle.channels.specs.NumberLaws.{part-read}
 use Rattle.channels.specs.Stored.{valueOf, value-above}
 use Rattle.descriptions.proofs.Parts.{attribute-given, attribute-none}
 use Rattle.descriptions.proofs.attribute_at.Statement.{statement}
@@ -33,13 +37,29 @@ width-requires c κs = search needs
 add-next : tie.Need-add-next
 add-next c = search needs
 
-number-at-requires : tie.Need-number-at-requires
-number-at-requires c κs = let e = c .before in rw (given e) at (e .before .before .pre .1)
+-- the bytes of the number are there
+there : (c : tie.After-width) → let a = c .before .before .before .args in
+    a .at + widthOf (a .format) ≤ length (a .s .now)
+there c =
+    let s = c .before .before .before in
+    omega (arith, s .pre .1, ap (λ x. cond x (widthOf (s .args .format)) 0) (given (c .before)))
 
--- as the machine has it, and as it is meant
+sub-number-at : tie.Need-sub-number-at
+sub-number-at c = search needs
+
+part-number-at-start : tie.Need-part-number-at-start
+part-number-at-start c = search needs
+
+part-number-at-end : tie.Need-part-number-at-end
+part-number-at-end c = omega (arith, there c, c .width .ensures .0)
+
+number-at-requires : tie.Need-number-at-requires
+number-at-requires c κs = search needs
+
+-- the number that was read: as the machine has it, and as it is meant
 module _ (m : tie.After-number-at) where
   abbrev start : tie.Start
-  start = m .before .before .before .before
+  start = m .before .before .before .before .before
 
   sum : toZ w32 (ofZ w32 (start .args .least)) +ℤ toZ w32 (m .number-at .result) ≡ start .args .least +ℤ pos (m .number-at .result)
   sum = rw (toZ-ofZ w32 (start .args .least) (start .fits .least), toZ-pos w32 (m .number-at .result) (omega arith))
@@ -55,6 +75,11 @@ module _ (m : tie.After-number-at) where
   meant signed e =
       rw sum (toZ-ofZ w32 _ fits) ∙ ap (λ z. z +ℤ pos (m .number-at .result)) e ∙ value-above (widthOf (start .args .format)) signed (m .number-at .result)
 
+-- it is the one that stands there
+number : (c : tie.After-number-at) → let a = start c .args in
+    readAt (reader.number (widthOf (a .format))) (a .s .now) (a .at) ≡ ok (c .number-at .result) (a .at + widthOf (a .format))
+number c = let v = c .before .before in part-read _ _ _ (there v) (v .width .result) (v .width .ensures .0) (c .number-at .ensures)
+
 cast-number : tie.Need-cast-number
 cast-number c = search needs
 
@@ -63,14 +88,14 @@ add-number c = rw (sum c) (fits c)
 
 returns-2 : tie.Need-returns-2
 returns-2 c =
-    let v = c .before in
+    let v = c .before .before in
     let a = start c .args in
     let z = ap (λ k. a .at + k) (sym (v .width .ensures .0)) in (
-      λ signed e. attribute-given _ signed _ _ _ (given (v .before)) (meant c signed e) (c .number-at .ensures) z,
+      λ signed e. attribute-given _ signed _ _ _ (given (v .before)) (meant c signed e) (number c) z,
       sym (ap (λ x. a .at + cond x (widthOf (a .format)) 0) (given (v .before)) ∙ z),
     )
 
 pub attribute-at-spec : {M : Type 1} → statement M
 attribute-at-spec =
     tie.close
-    (tie.spec returns width-requires add-next number-at-requires cast-number add-number returns-2)
+    (tie.spec returns width-requires add-next sub-number-at part-number-at-start part-number-at-end number-at-requires cast-number add-number returns-2)

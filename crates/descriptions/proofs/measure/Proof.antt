@@ -14,9 +14,9 @@ use Rattle.channels.specs.Channel.{widthOf}
 use Rattle.channels.specs.declared.Descriptor.{Descriptor}
 use Rattle.descriptions.specs.Description.{absent, includes, description}
 use Rattle.descriptions.specs.Read.{described, undescribed, measured, channelsFrom, descriptorSize}
-use Rattle.descriptions.proofs.Bits.{Moved, moved-none, moved-first, moved-on}
+use Rattle.descriptions.proofs.Bits.{Moved, moved-none, moved-first, moved-on, moved-out}
 use Rattle.descriptions.proofs.Measuring.{descriptor-whole, descriptor-flags}
-use Rattle.descriptions.proofs.Reading.{Gone, gone-none, gone-absent, gone-on, gone-failed, gone-all, behind-done, behind-failed}
+use Rattle.descriptions.proofs.Reading.{Gone, gone-none, gone-absent, gone-on, gone-failed, gone-all, gone-out, behind-done, behind-failed}
 use Rattle.descriptions.proofs.measure.Statement.{statement}
 use Rattle.descriptions.proofs.measure.Tie as tie
 
@@ -133,7 +133,7 @@ loop-again c =
       moved,
     ))
     (λ w.
-    rw (w .1, w .2, w .3)
+    rw (w .2, w .3, w .4)
     (omega arith, l .inv .1, gone-absent _ _ _ _ _ _ _ _ _ (l .inv .2) (t .loop-test .taken) (sym (moved-first (l .inv .3) (t .loop-test .taken)) ∙ sym (i .leads .ensures) ∙ w .0 .left), moved))
     (j .if1 .came)
 
@@ -142,6 +142,14 @@ unfolding measured
 returns-3 c =
     let l = c .before in
     ap undescribed (gone-all _ _ _ _ _ _ _ _ _ (l .loop .inv .2) (c .loop-test .left) ∙ ap described (sym (whole (l .before .before))))
+
+returns-4 : tie.Need-returns-4 Inv-loop μ-loop
+unfolding measured
+returns-4 c =
+    let t = c .before .before .before in
+    let l = t .before in
+    let g = gone-out _ _ _ _ (16 - l .loop .channel) _ _ _ _ _ (omega (arith, t .loop-test .taken)) (moved-out (l .loop .inv .3) (c .if2 .taken)) (l .loop .inv .2) in
+    ap undescribed (gone-all _ _ _ _ _ _ _ _ _ g (omega arith) ∙ ap described (sym (whole (l .before .before))))
 
 pub measure-spec : {M : Type 1} → statement M
 measure-spec =
@@ -168,4 +176,5 @@ measure-spec =
     add-channel
     loop-less
     loop-again
-    returns-3)
+    returns-3
+    returns-4)

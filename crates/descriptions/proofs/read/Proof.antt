@@ -12,9 +12,9 @@ use Rattle.formats.specs.declared.Outcome.the-variants.{Done}
 use Rattle.channels.specs.Channel.{widthOf, signedOf}
 use Rattle.descriptions.specs.Description.{includes, description}
 use Rattle.descriptions.specs.Read.{nothing, described, channelsFrom}
-use Rattle.descriptions.proofs.Bits.{Moved, moved-none, moved-first, moved-on}
+use Rattle.descriptions.proofs.Bits.{Moved, moved-none, moved-first, moved-on, moved-out}
 use Rattle.descriptions.proofs.Measuring.{Whole, descriptor-whole}
-use Rattle.descriptions.proofs.Reading.{Gone, gone-none, gone-absent, gone-on, gone-failed, gone-all, behind-done, behind-failed}
+use Rattle.descriptions.proofs.Reading.{Gone, gone-none, gone-absent, gone-on, gone-failed, gone-all, gone-out, behind-done, behind-failed}
 use Rattle.descriptions.proofs.read.Statement.{statement}
 use Rattle.descriptions.proofs.read.Tie as tie
 
@@ -127,7 +127,7 @@ loop-again c =
       moved,
     ))
     (λ w.
-    rw (w .1, w .2, w .3, w .4, w .5)
+    rw (w .2, w .3, w .4, w .5, w .6)
     (omega arith, gone-absent _ _ _ _ _ _ _ _ _ (l .inv .1) (t .loop-test .taken) (sym (moved-first (l .inv .3) (t .loop-test .taken)) ∙ sym (i .leads .ensures) ∙ w .0 .left), l .inv .2, moved))
     (j .if1 .came)
 
@@ -149,8 +149,15 @@ returns-2 c =
     ∙ ap described (sym (whole (l .before .before .before)))
 
 returns-3 : tie.Need-returns-3 Inv-loop μ-loop
+returns-3 c =
+    let t = c .before .before .before in
+    let l = t .before in
+    let g = gone-out _ _ _ _ (16 - l .loop .channel) _ _ _ _ _ (omega (arith, t .loop-test .taken)) (moved-out (l .loop .inv .3) (c .if2 .taken)) (l .loop .inv .1) in
+    rw (l .loop .inv .2) (gone-all _ _ _ _ _ _ _ _ _ g (omega arith) ∙ ap described (sym (whole (l .before .before .before))))
+
+returns-4 : tie.Need-returns-4 Inv-loop μ-loop
 unfolding nothing
-returns-3 c = behind-failed _ (c .enum-told2 .given .1) (c .before .before .inclusion-at .ensures _)
+returns-4 c = behind-failed _ (c .enum-told2 .given .1) (c .before .before .inclusion-at .ensures _)
 
 pub read-spec : {M : Type 1} → statement M
 read-spec =
@@ -180,4 +187,5 @@ read-spec =
     enum-told-2
     returns
     returns-2
-    returns-3)
+    returns-3
+    returns-4)

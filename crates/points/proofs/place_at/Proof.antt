@@ -2,7 +2,7 @@
 use mathlib.Core.Path.{sym, ap, _∙_}
 use mir.Syntax.{w32}
 use mir.ValLaws.{toZ-ofZ}
-use Rattle.points.specs.Parts.{taken}
+use Rattle.points.specs.Parts.{placeRead}
 use Rattle.points.proofs.Setting.{place-unstored, place-stored}
 use borrow.Author.Needs.{needs}
 use Rattle.points.proofs.place_at.Statement.{statement}
@@ -29,12 +29,12 @@ returns-2 c =
     sym (place-stored _ _ _ _ _ _ (m .before .if1 .taken) (sym (m .sample-at .ensures) ∙ c .before .failure .given .1))
 
 returns-3 : tie.Need-returns-3
-unfolding taken
-returns-3 c = sym (ap taken (place-unstored _ _ _ _ _ _ (c .before .if1 .left)) ∙ rw (c .if2 .taken))
+unfolding placeRead
+returns-3 c = sym (ap placeRead (place-unstored _ _ _ _ _ _ (c .before .if1 .left)) ∙ rw (c .if2 .taken))
 
 returns-4 : tie.Need-returns-4
-unfolding taken
-returns-4 c = sym (ap taken (place-unstored _ _ _ _ _ _ (c .before .if1 .left)) ∙ rw (c .if2 .left))
+unfolding placeRead
+returns-4 c = sym (ap placeRead (place-unstored _ _ _ _ _ _ (c .before .if1 .left)) ∙ rw (c .if2 .left))
 
 pub place-at-spec : {M : Type 1} → statement M
 place-at-spec =

@@ -33,8 +33,8 @@ array-read-place-at-2 c = search needs
 place-at-requires : tie.Need-place-at-requires Inv-loop μ-loop
 place-at-requires c κs = search needs
 
-enum-known-taken : tie.Need-enum-known-taken Inv-loop μ-loop
-enum-known-taken c = search needs
+enum-known-found : tie.Need-enum-known-found Inv-loop μ-loop
+enum-known-found c = search needs
 
 enum-told : tie.Need-enum-told Inv-loop μ-loop
 enum-told c = search needs
@@ -63,7 +63,7 @@ loop-again c =
     let l = x .before .before in (
       omega arith,
       simp length-set (l .loop .inv .1),
-      set-more _ _ _ _ _ _ _ _ (omega (arith, sixteen (l .before .before))) (l .loop .inv .2) (omega (arith, l .loop .inv .1)) (sym (c .before .taken .given .1) ∙ x .place-at .ensures),
+      set-more _ _ _ _ _ _ _ _ (omega (arith, sixteen (l .before .before))) (l .loop .inv .2) (omega (arith, l .loop .inv .1)) (sym (c .before .found .given .1) ∙ x .place-at .ensures),
     )
 
 returns-2 : tie.Need-returns-2 Inv-loop μ-loop
@@ -81,7 +81,7 @@ places-spec =
     array-read-place-at
     array-read-place-at-2
     place-at-requires
-    enum-known-taken
+    enum-known-found
     enum-told
     returns
     mul-places

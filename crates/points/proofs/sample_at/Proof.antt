@@ -4,6 +4,7 @@ use native.Mathlib.Omega.{arith}
 use mir.Syntax.{w32}
 use mir.ValLaws.{toZ-ofZ}
 use Rattle.channels.specs.Channel.{widthOf}
+use Rattle.channels.specs.NumberLaws.{number-read}
 use Rattle.channels.specs.Switch.{state-found, state-refused}
 use Rattle.points.specs.Parts.{sampled}
 use Rattle.points.proofs.Samples.{one-or-two, sample-none, switch-ok, switch-bad, wide-size, wide-short, wide-ok}
@@ -45,7 +46,7 @@ unfolding sampled
 returns-2 c = sym (ap sampled (wide-short _ _ _ _ (c .before .before .if2 .left) (omega (arith, sized (c .before)))))
 
 number-at-requires : tie.Need-number-at-requires
-number-at-requires c κs = omega (arith, sized (c .before))
+number-at-requires c κs = search needs
 
 is-signed-requires : tie.Need-is-signed-requires
 is-signed-requires c κs = search needs
@@ -77,7 +78,7 @@ returns-5 c =
     let n = g .before in
     let z = n .before .before in
     rw (toZ-ofZ w32 (c .value-of .result) (search needs), c .value-of .ensures, g .is-signed .ensures, sized z)
-    (sym (ap sampled (wide-ok _ _ _ _ (z .before .if2 .left) (n .number-at .ensures))))
+    (sym (ap sampled (wide-ok _ _ _ _ (z .before .if2 .left) (number-read _ _ _ (omega (arith, sized z)) (n .number-at .ensures)))))
 
 pub sample-at-spec : {M : Type 1} → statement M
 sample-at-spec =

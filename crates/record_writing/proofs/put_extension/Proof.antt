@@ -8,6 +8,8 @@ use lib.ListN.{length}
 use borrow.Author.Tests.{not-true, not-false}
 use Rattle.formats.specs.Laid.{Room, laid-none, laid-more, room-first, room-rest, within-laid}
 use Rattle.formats.specs.Number.{digits}
+use Rattle.channels.specs.Channel.{widthOf}
+use Rattle.channels.specs.NumberLaws.{number-laid}
 use Rattle.records.specs.Record.{encodeExtended}
 use Rattle.record_writing.proofs.Laying.{wanted-room, wanted-laid}
 use borrow.Author.Needs.{needs}
@@ -32,11 +34,11 @@ returns : tie.Need-returns
 unfolding encodeExtended
 returns c = let s = c .before .before .before in rw (not-true (s .args .wanted) (c .if1 .taken)) (laid-none _ _)
 
-cast-put-pair : tie.Need-cast-put-pair
-cast-put-pair c = record { fits = omega (arith, small (c .before)) }
+cast-put-number : tie.Need-cast-put-number
+cast-put-number c = record { fits = omega (arith, small (c .before)) }
 
-put-pair-requires : tie.Need-put-pair-requires
-put-pair-requires c κs = room-first _ _ (room (c .before))
+put-number-requires : tie.Need-put-number-requires
+put-number-requires c κs = search needs
 
 put-requires : tie.Need-put-requires
 put-requires c κs = search needs
@@ -45,14 +47,16 @@ same-length : tie.Need-same-length
 same-length c = search needs
 
 returns-2 : tie.Need-returns-2
+unfolding widthOf
 returns-2 c =
     let q = c .before .before in
     let p = q .before .before .before .before in
     let w = p .before .before in
-    let l = within-laid _ (room-rest (p .put-pair .ensures) (room w)) (q .put .ensures) in
-    wanted-laid (start w .args .extended .now) (start w .args .wanted) (wanted w) (laid-more (p .put-pair .ensures) l)
+    let f = number-laid 2 _ _ _ (room-first _ _ (room w)) (p .put-number .ensures) in
+    let l = within-laid _ (room-rest f (room w)) (q .put .ensures) in
+    wanted-laid (start w .args .extended .now) (start w .args .wanted) (wanted w) (laid-more f l)
 
 pub put-extension-spec : {M : Type 1} → statement M
 put-extension-spec =
     tie.close
-    (tie.spec returns cast-put-pair put-pair-requires put-requires same-length returns-2)
+    (tie.spec returns cast-put-number put-number-requires put-requires same-length returns-2)

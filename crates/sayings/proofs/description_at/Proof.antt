@@ -1,31 +1,24 @@
 -- `sayings::description_at` says nothing where no word follows, since its loop then has no turn; it ends, since each turn goes on to the next word, which begins behind this one.
-use mathlib.Core.Bool.{Bool, true, false}
 use mathlib.Core.List.{List}
-use mathlib.Core.Logic.{_⊎_, inl, inr, ⊎-elim}
+use mathlib.Core.Logic.{⊎-elim}
 use Prim.Native.Nat.{ℕ, _≤_, _<_, _-_}
-use mathlib.Core.Path.{_≡_, refl}
-use lib.Dec.{ltb}
+use mathlib.Core.Path.{_≡_}
 use lib.ListN.{length}
-use borrow.Author.Tests.{ltb-true, ltb-false}
 use native.Mathlib.Omega.{arith}
 use Rattle.descriptions.specs.Read.{nothing}
-use Rattle.words.specs.Places.{Word}
-use Rattle.sayings.specs.Silent.{Blank}
+use Rattle.words.specs.Places.{Word, Blank}
+use Rattle.words.proofs.Words.{lt-or-ge}
 use borrow.Author.Needs.{needs}
 use Rattle.sayings.proofs.description_at.Statement.{statement}
 use Rattle.sayings.proofs.description_at.Tie as tie
-
-split : (a b : ℕ) (test : Bool) → ltb a b ≡ test → (a < b) ⊎ (b ≤ a)
-split a b true e = inl (ltb-true a b e)
-split a b false e = inr (ltb-false a b e)
 
 -- where only spaces follow, the next word is empty
 empty : (line : List ℕ) (at from to : ℕ) → Word line 32 at from to → Blank line at → to ≤ from
 empty line at from to w h =
     ⊎-elim
     (λ p. absurd (w .begins .found p (h from (w .begins .onward) p)))
-    (λ p. ⊎-elim (λ q. omega (arith, w .ends .inside q)) (λ q. q) (split from to (ltb from to) refl))
-    (split from (length line) (ltb from (length line)) refl)
+    (λ p. ⊎-elim (λ q. omega (arith, w .ends .inside q)) (λ q. q) (lt-or-ge from to))
+    (lt-or-ge from (length line))
 
 abbrev Inv-loop : tie.InvT-loop
 Inv-loop line at description₀ span₀ description span = (span .from < span .to → span .to ≤ length line) × (Blank line at → span .to ≤ span .from) × (Blank line at → description ≡ nothing)

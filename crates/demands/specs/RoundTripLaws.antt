@@ -1,0 +1,66 @@
+-- What reading handed out of a record is what writing it wants: its description, its count, its numbers in one row and its extended data.
+use mathlib.Core.Path.{_≡_, refl, sym, ap, _∙_}
+use mathlib.Core.Bool.{Bool, true, false, cond}
+use mathlib.Core.List.{List, [], flatten}
+use mathlib.Core.Option.{none, some}
+use Prim.Native.Nat.{ℕ, _+_, _≤_, _<_}
+use native.Mathlib.Omega.{arith}
+use denote.Ref.{RefT, now}
+use lib.ListN.{length, take, getD}
+use Rattle.formats.specs.Bytes.{Bytes}
+use Rattle.formats.specs.Law.{whole}
+use Rattle.formats.specs.Reader.{ok, run}
+use Rattle.channels.specs.declared.Place.{Place}
+use Rattle.values.specs.Values.{size}
+use Rattle.values.specs.OrderLaws.{valid-sizes}
+use Rattle.records.specs.Record.{fullRecord, included, stored, IsRecord, present, extendedBytes}
+use Rattle.records.specs.Demands.{write-after-read}
+use Rattle.record_reading.specs.declared.Verdict.the-variants as verdict
+use Rattle.record_reading.specs.declared.Judged.{Judged}
+use Rattle.demands.specs.Promises as promises
+use Rattle.demands.specs.Saying.{saying, numbersIn, numbersOf}
+use Rattle.demands.specs.JudgingLaws.{record-read, read-judged}
+use Rattle.demands.specs.Reading.{point-told}
+use Rattle.demands.specs.ReadingLaws.{size-at, numbers-in, numbers-of-from}
+
+pub extended-given : (wanted : Bool) (extended : List ℕ) → extendedBytes (cond wanted (some extended) none) ≡ cond wanted extended []
+unfolding extendedBytes
+extended-given true extended = refl
+extended-given false extended = refl
+
+-- the record that judge spoke of
+pub record Meant (s : List ℕ) (r : Judged) (n count : ℕ) (wanted : Bool) : Type 0 where
+  pub within : n ≤ length s
+  pub bytes : IsRecord (take n s)
+  pub read : run fullRecord s ≡ ok (bytes .value) n
+  pub described : r .description ≡ bytes .value .description
+  pub counted : count ≡ length (bytes .value .points)
+  pub presence : wanted ≡ present (bytes .value .extended)
+
+pub meant : (s : List ℕ) → Bytes s → (r : Judged) → promises.judge s r → (n count : ℕ) (wanted : Bool) → r .verdict ≡ verdict.Record n count wanted → Meant s r n count wanted
+meant s bytes r judges n count wanted said =
+    let taken = record-read (run fullRecord s) n (record { count = count; extended = wanted; accepted = ap (λ x. x .verdict) (sym judges) ∙ said }) in
+    let value = taken .0 in
+    let law = write-after-read s value n bytes (taken .1) in
+    let told : r ≡ saying n value = judges ∙ read-judged (run fullRecord s) value n (taken .1) in
+    let same : verdict.Record n count wanted ≡ verdict.Record n (length (value .points)) (present (value .extended)) = sym said ∙ ap (λ x. x .verdict) told in
+    record {
+      within = whole fullRecord s (taken .1) .within;
+      bytes = record { value = value; valid = law .0; written = law .1 };
+      read = taken .1;
+      described = ap (λ x. x .description) told;
+      counted = cc same;
+      presence = cc same;
+    }
+
+-- the numbers that point handed out, point by point, are those of the record's points
+pub in-a-row : (s : RefT (List ℕ)) (n : ℕ) → n ≤ length (now s) → (x : IsRecord (take n (now s))) (points : ℕ → List Place)
+    → ((index : ℕ) → index < length (x .value .points) → promises.point (now s) index (points index)) → numbersOf points (length (x .value .points)) 0 ≡ flatten (x .value .points)
+in-a-row s n within x points handed =
+    let d = x .value .description in
+    let sizes = valid-sizes 2 (stored d) (x .value .points) (x .valid .points) in
+    numbers-of-from points (x .value .points) 0 (λ i h.
+    let z : 0 + i ≡ i = omega arith in
+    ap (λ j. numbersIn (points j)) z
+    ∙ ap numbersIn (point-told s n within x i h (points i) (handed i h))
+    ∙ numbers-in (included d) (stored d) (getD (x .value .points) i []) (size-at (size (stored d)) (x .value .points) sizes i h))
