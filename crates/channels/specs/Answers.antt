@@ -1,14 +1,11 @@
 -- Each public function has one answer: whatever meets its promise is the same.
 use mathlib.Core.Path.{_≡_}
 use mathlib.Core.Bool.{Bool}
-use mathlib.Core.List.{List}
 use Prim.Native.Nat.{ℕ, _≤_}
 use lib.IntN.{ℤ}
 use Rattle.formats.specs.OneAnswer.{OneAnswer, named}
-use Rattle.formats.specs.Lent.{Writing, writing}
 use Rattle.channels.specs.Channel.{signs, signedOf, widthOf}
 use Rattle.channels.specs.Stored.{valueOf, storedIf}
-use Rattle.channels.specs.Numbers.{numberAt, putNumber}
 use Rattle.channels.specs.Switch.{stateIf, byteIf}
 use Rattle.channels.specs.declared.Format.{Format}
 
@@ -23,14 +20,6 @@ one-value format signed number = named
 
 pub one-stored : (format : Format) (signed : Bool) (value : ℤ) → OneAnswer (λ r. r ≡ storedIf (widthOf format) signed value)
 one-stored format signed value = named
-
-pub one-number : (bytes : List ℕ) (at : ℕ) (format : Format) → OneAnswer (λ r. r ≡ numberAt (widthOf format) bytes at)
-one-number bytes at format = named
-
--- of the answer and the bytes together
-pub one-put : (out : List ℕ) (at number : ℕ) (format : Format)
-    → OneAnswer (λ (v : Writing ℕ). writing (v .answer) (v .bytes) ≡ putNumber (widthOf format) number out at)
-one-put out at number format = named
 
 pub one-state : (byte : ℕ) → OneAnswer (λ r. r ≡ stateIf byte)
 one-state byte = named

@@ -1,9 +1,7 @@
 -- The sixteen channels, and the numbers that are stored for them.
 -- `Channel`: their order, their signs, and how wide their numbers are. `Stored`: a number and what is stored for it. `Switch`: the same for S.
--- `Numbers`: a stored number among bytes, read and put; `NumberLaws`: what is known of it. `Answers`: no public function has a second answer.
+-- `Answers`: no public function has a second answer.
 pub mod Channel
 pub mod Stored
-pub mod Numbers
-pub mod NumberLaws
 pub mod Switch
 pub mod Answers

@@ -2,9 +2,7 @@
 ghost use mathlib.Core.Path.{_≡_};
 ghost use Prim.Native.Nat.{_^_, _≤_};
 ghost use lib.IntN.{pos};
-ghost use Rattle.formats.specs.Lent.{writing};
 ghost use Rattle.channels.specs.Channel.{signs, signedOf, widthOf};
-ghost use Rattle.channels.specs.Numbers.{numberAt, putNumber};
 ghost use Rattle.channels.specs.Stored as stored;
 ghost use Rattle.channels.specs.Stored.{valueOf, storedIf};
 ghost use Rattle.channels.specs.Switch.{stateIf, byteIf};
@@ -171,48 +169,6 @@ pub fn stored_of(format: Format, signed: bool, value: i32) -> Stored
         return Stored::Outside;
     }
     Stored::Number(number as u16)
-}
-
-// The stored number that stands at a place, the high byte first, and 0 where its bytes are not all there.
-pub fn number_at(bytes: &[u8], at: usize, format: Format) -> u16
-    ensures { λ r. ⌜ r ≡ numberAt (widthOf format) (now (bytes .entry)) at ⌝ }
-{
-    let width = width(format);
-    if bytes.len() < width {
-        return 0;
-    }
-    if bytes.len() - width < at {
-        return 0;
-    }
-    match format {
-        Format::Full => formats::pair(bytes[at], bytes[at + 1]),
-        Format::Compact => formats::pair(0, bytes[at]),
-    }
-}
-
-// A stored number is put at a place, the high byte first, and where the next would go is answered.
-// Where there is no room for all of it nothing is put, and the place itself is answered.
-pub fn put_number(out: &mut [u8], at: usize, number: u16, format: Format) -> usize
-    ensures { λ r. ⌜ writing r (now (out .exit)) ≡ putNumber (widthOf format) number (now (out .entry)) at ⌝ }
-{
-    let width = width(format);
-    if out.len() < width {
-        return at;
-    }
-    if out.len() - width < at {
-        return at;
-    }
-    match format {
-        Format::Full => {
-            out[at] = formats::high(number);
-            out[at + 1] = formats::low(number as u32);
-            at + 2
-        }
-        Format::Compact => {
-            out[at] = formats::low(number as u32);
-            at + 1
-        }
-    }
 }
 
 // What a byte of S stands for, if anything.

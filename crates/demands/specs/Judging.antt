@@ -22,7 +22,7 @@ use Rattle.record_reading.specs.declared.Verdict.{Verdict}
 use Rattle.record_reading.specs.declared.Verdict.the-variants as verdict
 use Rattle.record_reading.specs.declared.Judged.{Judged}
 use Rattle.demands.specs.Promises as promises
-use Rattle.demands.specs.Saying.{saying, Accepts, Refuses, Said}
+use Rattle.demands.specs.Saying.{saying, Accepts, Refuses, Sayable}
 use Rattle.demands.specs.JudgingLaws.{Numbered, is-record, whole-is-read, record-is-read, record-read, read-judged, accepts, short-read, read-short, refused-read, read-refused, all-said, numbered-moved, record-moved, short-moved, refused-moved, whole-fits, whole-left, whole-refused, whole-read, left-read, whole-said}
 
 module _ (s : List ℕ) (bytes : Bytes s) where
@@ -75,7 +75,7 @@ module _ (s : List ℕ) (bytes : Bytes s) where
     first-refused place h x proper never = let y = demands.refused-if s bytes place h x proper never in (y .0, as-refused (y .0) place (y .1))
 
     -- judge says nothing else: a record, or 1, or a byte refused with a number from 2 to 8
-    pub nothing-else : Said (r .verdict)
+    pub nothing-else : Sayable (r .verdict)
     nothing-else = rw answers (all-said 0 (run fullRecord s) numbered)
 
   -- ---- From a place on: verdict_at
@@ -101,7 +101,7 @@ module _ (s : List ℕ) (bytes : Bytes s) where
     refused-at number place = rw (answers, judges) (refused-moved start (run fullRecord (drop start s)) numbered-behind number place)
 
     -- it says nothing else either
-    pub nothing-else-at : Said r
+    pub nothing-else-at : Sayable r
     unfolding readAt
     nothing-else-at = rw answers (all-said start (readAt fullRecord s start) (numbered-moved start (run fullRecord (drop start s)) numbered-behind))
 
@@ -145,5 +145,5 @@ module _ (s : List ℕ) (bytes : Bytes s) where
     refused-alike q e refusal x = answers ∙ whole-refused (length s) (run fullRecord s) refusal (rw e at x) ∙ sym e
 
     -- judge_whole says nothing else: what judge may say, or bytes left over
-    pub whole-nothing-else : Said (r .verdict) ⊎ ((place : ℕ) × (r .verdict ≡ verdict.Refused (LeftOver place)))
+    pub whole-nothing-else : Sayable (r .verdict) ⊎ ((place : ℕ) × (r .verdict ≡ verdict.Refused (LeftOver place)))
     whole-nothing-else = rw answers (whole-said (length s) (run fullRecord s) numbered)

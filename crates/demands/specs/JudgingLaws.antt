@@ -24,7 +24,7 @@ use Rattle.records.specs.Demands.{read-after-write, write-after-read}
 use Rattle.record_reading.specs.Verdict.{verdictFrom, descriptionIn, judged, unjudged, judgedWhole}
 use Rattle.record_reading.specs.declared.Verdict.the-variants as verdict
 use Rattle.record_reading.specs.declared.Judged.{Judged}
-use Rattle.demands.specs.Saying.{saying, Accepts, Refuses, Said, aRecord, tooShort, refusedAt}
+use Rattle.demands.specs.Saying.{saying, Accepts, Refuses, Sayable, aRecord, tooShort, refusedAt}
 
 -- ---- A record, and its reading
 
@@ -108,7 +108,7 @@ read-refused start a h k p e =
     record { refusal = refusalOf (failure.Bad k p); refused = ap (verdictFrom start) e; numbered = law .0; placed = law .1 }
 
 -- it says nothing else
-pub all-said : (start : ℕ) (a : Answer Record) → Numbered a → Said (verdictFrom start a)
+pub all-said : (start : ℕ) (a : Answer Record) → Numbered a → Sayable (verdictFrom start a)
 unfolding verdictFrom refusalOf
 all-said start (ok q n) h = aRecord (n - start) (record { count = length (q .points); extended = present (q .extended); accepted = refl })
 all-said start short h = tooShort refl
@@ -214,11 +214,11 @@ module _ (size : ℕ) where
       absurd (omega (arith, bounds .1, bad-refusal k i (bounds .0) (omega (arith, bounds .1)) .0, ap numberOf (same-refusal e)))
 
   -- it says what judge may say, or bytes left over
-  pub whole-said : (a : Answer Record) → Numbered a → Said (judgedWhole size a .verdict) ⊎ ((p : ℕ) × (judgedWhole size a .verdict ≡ verdict.Refused (LeftOver p)))
+  pub whole-said : (a : Answer Record) → Numbered a → Sayable (judgedWhole size a .verdict) ⊎ ((p : ℕ) × (judgedWhole size a .verdict ≡ verdict.Refused (LeftOver p)))
   unfolding judgedWhole
   whole-said (ok q m) h = go (ltb m size)
     where
-      go : (t : Bool) → Said (cond t (unjudged (verdict.Refused (LeftOver m))) (judged (ok q m)) .verdict)
+      go : (t : Bool) → Sayable (cond t (unjudged (verdict.Refused (LeftOver m))) (judged (ok q m)) .verdict)
           ⊎ ((p : ℕ) × (cond t (unjudged (verdict.Refused (LeftOver m))) (judged (ok q m)) .verdict ≡ verdict.Refused (LeftOver p)))
       go true = inr (m, refl)
       go false = inl (all-said 0 (ok q m) h)

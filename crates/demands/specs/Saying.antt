@@ -33,11 +33,11 @@ pub record Refuses (v : Verdict) (number place : ℕ) : Type 0 where
   pub numbered : numberOf refusal ≡ number
   pub placed : placeOf refusal ≡ At place
 
--- a record, or short, or a refusal that has a number from 2 to 8 and names a place
-pub data Said (v : Verdict) : Type 0 where
-  aRecord : (n : ℕ) → Accepts v n → Said v
-  tooShort : v ≡ verdict.Refused Short → Said v
-  refusedAt : (number place : ℕ) → 2 ≤ number → number ≤ 8 → Refuses v number place → Said v
+-- what judge may say: a record, or short, or a refusal that has a number from 2 to 8 and names a place
+pub data Sayable (v : Verdict) : Type 0 where
+  aRecord : (n : ℕ) → Accepts v n → Sayable v
+  tooShort : v ≡ verdict.Refused Short → Sayable v
+  refusedAt : (number place : ℕ) → 2 ≤ number → number ≤ 8 → Refuses v number place → Sayable v
 
 -- ---- The numbers of points that were handed out
 

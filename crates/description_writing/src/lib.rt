@@ -113,7 +113,7 @@ fn put_attribute(
     }
     let number = (attribute.number - least) as u16;
     let end = at + channels::width(format);
-    channels::put_number(&mut out[at..end], 0, number, format);
+    stored_numbers::put_number(&mut out[at..end], 0, number, format);
     end
 }
 
@@ -156,7 +156,7 @@ fn put_description(out: &mut [u8], start: usize, description: Description, forma
 {
     let full = Format::Full;
     let signs = channels::signs();
-    let mut at = channels::put_number(out, start, inclusion(description), full);
+    let mut at = stored_numbers::put_number(out, start, inclusion(description), full);
     let mut i: usize = 0;
     while i < 16 {
         let d = description.channels[i];

@@ -178,7 +178,7 @@ fn sample_at(bytes: &[u8], at: usize, format: Format, channel: usize) -> Sample
         if bytes.len() - at < size {
             return Sample::Failed(Failure::Short);
         }
-        let number = channels::number_at(bytes, at, format);
+        let number = stored_numbers::number_at(bytes, at, format);
         let value = channels::value_of(format, channels::is_signed(channel), number);
         Sample::Number {
             value: value,

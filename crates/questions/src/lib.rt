@@ -1,6 +1,5 @@
 // Questions: each is read from its words, asked of the library, and answered.
 mod thousandths;
-mod writing;
 
 use hex::Amount;
 use record_parts::Pointed;
@@ -44,8 +43,8 @@ pub fn answer(text: &mut [u8; 65536], used: u16, line: &[u8]) -> u16 {
     match question {
         JUDGE..=TEMPLATE => of_bytes(text, used, question, 0, line, span.to),
         POINT..=STEP => of_number_and_bytes(text, used, question, line, span.to),
-        WRITE => writing::write(text, used, line, span.to),
-        WRITE_TEMPLATE => writing::write_template(text, used, line, span.to),
+        WRITE => writing_questions::write(text, used, line, span.to),
+        WRITE_TEMPLATE => writing_questions::write_template(text, used, line, span.to),
         THOUSANDTHS => thousandths::raw(text, used, line, span.to),
         PLACE => thousandths::place(text, used, line, span.to),
         _ => answers::cannot(text, used, answers::NO_SUCH_QUESTION),
@@ -79,7 +78,7 @@ fn rest_of(line: &[u8], at: usize, space: &mut [u8; 131072]) -> Amount {
 }
 
 // The first bytes of some that were lent.
-pub(crate) fn lent<'a>(space: &'a [u8; 131072], count: usize) -> &'a [u8] {
+fn lent<'a>(space: &'a [u8; 131072], count: usize) -> &'a [u8] {
     words::part(space, 0, count)
 }
 

@@ -88,10 +88,10 @@ pub record Lying (s : List ℕ) (h : Front) (l : Layout) (r : Record) (end : ℕ
   pub extended-within : (l .extension ≤ end) × (end ≤ length s)
 
 -- the layout is that of the record that was read, behind its front, or ends as reading did
-unfoldable pub Found : List ℕ → Front → Answer Record → Layout → Type 0
-Found s h (ok r end) l = Lying s h l r end
-Found s h short l = l ≡ noLayout (told {A = Record} short)
-Found s h (bad k p) l = l ≡ noLayout (told {A = Record} (bad k p))
+unfoldable pub Agrees : List ℕ → Front → Answer Record → Layout → Type 0
+Agrees s h (ok r end) l = Lying s h l r end
+Agrees s h short l = l ≡ noLayout (told {A = Record} short)
+Agrees s h (bad k p) l = l ≡ noLayout (told {A = Record} (bad k p))
 
 module _ (s : List ℕ) where
   module _ (f : Heading) (at : ℕ) (within : at ≤ length s) where
@@ -101,9 +101,9 @@ module _ (s : List ℕ) where
     -- behind the points
     module _ (points : List (List ℤ)) (next : ℕ) (e : readAt (times (f .count) (point 2 (stored (f .description)))) s at ≡ ok points next) where
       by-extension : (x : Answer (Option (List ℕ))) → readAt (extension (f .announced)) s next ≡ x
-          → Found s (frontOf f at) (andThen x (λ extra end. readAt (done (made points extra)) s end))
+          → Agrees s (frontOf f at) (andThen x (λ extra end. readAt (done (made points extra)) s end))
           (behind (told x) (λ end. record { outcome = Done end; announced = f .announced; count = f .count; extension = next }))
-      unfolding Found andThen behind told
+      unfolding Agrees andThen behind told
       by-extension (ok extra end) g =
           let w = at-within (times (f .count) (point 2 (stored (f .description)))) s at e within in
           rw (at-done (made points extra) s end)
@@ -122,9 +122,9 @@ module _ (s : List ℕ) where
 
     -- behind the front
     by-points : (x : Answer (List (List ℤ))) → readAt (times (f .count) (point 2 (stored (f .description)))) s at ≡ x
-        → Found s (frontOf f at) (andThen x (λ points next. readAt (bind (extension (f .announced)) (λ extra. done (made points extra))) s next))
+        → Agrees s (frontOf f at) (andThen x (λ points next. readAt (bind (extension (f .announced)) (λ extra. done (made points extra))) s next))
         (behind (told x) (λ next. behind (told (readAt (extension (f .announced)) s next)) (λ end. record { outcome = Done end; announced = f .announced; count = f .count; extension = next })))
-    unfolding Found andThen behind told
+    unfolding Agrees andThen behind told
     by-points (ok points next) e =
         rw (at-bind (λ extra. done (made points extra)) (extension (f .announced)) s next)
         (by-extension points next e (readAt (extension (f .announced)) s next) refl)
@@ -132,8 +132,8 @@ module _ (s : List ℕ) where
     by-points (bad k p) e = refl
 
   module _ (start : ℕ) (inside : start ≤ length s) where
-    by-front : (x : Answer Heading) → readAt front s start ≡ x → Found s (frontIn x) (andThen x (λ f at. readAt (body f) s at)) (layoutBehind s (fronted x))
-    unfolding Found andThen layoutBehind behind frontIn told body
+    by-front : (x : Answer Heading) → readAt front s start ≡ x → Agrees s (frontIn x) (andThen x (λ f at. readAt (body f) s at)) (layoutBehind s (fronted x))
+    unfolding Agrees andThen layoutBehind behind frontIn told body
     by-front (ok f at) e =
         let w = at-within front s start e inside .1 in
         rw (at-bind (λ points. bind (extension (f .announced)) (λ extra. done (made f at w points extra))) (times (f .count) (point 2 (stored (f .description)))) s at)
@@ -141,9 +141,9 @@ module _ (s : List ℕ) where
     by-front short e = refl
     by-front (bad k p) e = refl
 
-    found : Found s (frontIn (readAt front s start)) (readAt fullRecord s start) (layoutAt s start)
+    agrees : Agrees s (frontIn (readAt front s start)) (readAt fullRecord s start) (layoutAt s start)
     unfolding layoutAt
-    found = rw (ap (λ r. readAt r s start) in-two ∙ at-bind body front s start) (by-front (readAt front s start) refl)
+    agrees = rw (ap (λ r. readAt r s start) in-two ∙ at-bind body front s start) (by-front (readAt front s start) refl)
 
 -- ---- Reading, by how the layout ended
 
@@ -151,11 +151,11 @@ module _ (s : List ℕ) (start : ℕ) (inside : start ≤ length s) (l : Layout)
   abbrev heading : Front
   heading = frontIn (readAt front s start)
 
-  of-layout : (x : Answer Record) → readAt fullRecord s start ≡ x → Found s heading x l
-  of-layout x q = rw (← q, e) (found s start inside)
+  of-layout : (x : Answer Record) → readAt fullRecord s start ≡ x → Agrees s heading x l
+  of-layout x q = rw (← q, e) (agrees s start inside)
 
-  whole-of : (x : Answer Record) → readAt fullRecord s start ≡ x → Found s heading x l → {end : ℕ} → l .outcome ≡ Done end → (r : Record) × (readAt fullRecord s start ≡ ok r end) × Lying s heading l r end
-  unfolding Found told
+  whole-of : (x : Answer Record) → readAt fullRecord s start ≡ x → Agrees s heading x l → {end : ℕ} → l .outcome ≡ Done end → (r : Record) × (readAt fullRecord s start ≡ ok r end) × Lying s heading l r end
+  unfolding Agrees told
   whole-of (ok r n) q f {end} o =
       let g = f .outcome in
       let z : n ≡ end = cc in
@@ -167,8 +167,8 @@ module _ (s : List ℕ) (start : ℕ) (inside : start ≤ length s) (l : Layout)
   pub record-lies : {end : ℕ} → l .outcome ≡ Done end → (r : Record) × (readAt fullRecord s start ≡ ok r end) × Lying s heading l r end
   record-lies o = whole-of (readAt fullRecord s start) refl (of-layout (readAt fullRecord s start) refl) o
 
-  ends-as : (x : Answer Record) → Found s heading x l → l .outcome ≡ told x
-  unfolding Found told
+  ends-as : (x : Answer Record) → Agrees s heading x l → l .outcome ≡ told x
+  unfolding Agrees told
   ends-as (ok r n) f = f .outcome
   ends-as short f = ap (λ y. y .outcome) f
   ends-as (bad k p) f = ap (λ y. y .outcome) f
@@ -177,8 +177,8 @@ module _ (s : List ℕ) (start : ℕ) (inside : start ≤ length s) (l : Layout)
   pub failed-lies : {f : Failure} → l .outcome ≡ Failed f → readAt fullRecord s start ≡ failed f
   failed-lies o = told-failed (readAt fullRecord s start) (sym o ∙ ends-as (readAt fullRecord s start) (of-layout (readAt fullRecord s start) refl))
 
-  nothing-of : (x : Answer Record) → Found s heading x l → {f : Failure} → l .outcome ≡ Failed f → l .count ≡ 0
-  unfolding Found told
+  nothing-of : (x : Answer Record) → Agrees s heading x l → {f : Failure} → l .outcome ≡ Failed f → l .count ≡ 0
+  unfolding Agrees told
   nothing-of (ok r n) g o = impossible (cc (g .outcome))
   nothing-of short g o = ap (λ y. y .count) g
   nothing-of (bad k p) g o = ap (λ y. y .count) g

@@ -75,7 +75,7 @@ fn put_extension(out: &mut [u8], at: usize, wanted: bool, extended: &[u8]) -> us
     if !wanted {
         return at;
     }
-    let next = channels::put_number(out, at, extended.len() as u16, Format::Full);
+    let next = stored_numbers::put_number(out, at, extended.len() as u16, Format::Full);
     formats::put(out, next, extended)
 }
 

@@ -200,7 +200,7 @@ fn put_sample(
     let number = number_in(stored_sample(format, channel, value, signs));
     let narrow = sample_format(format, channel);
     let end = at + channels::width(narrow);
-    channels::put_number(&mut out[at..end], 0, number, narrow);
+    stored_numbers::put_number(&mut out[at..end], 0, number, narrow);
     end
 }
 

@@ -14,7 +14,7 @@ use mir.ValLaws.{toZ-ofZ}
 use Rattle.formats.specs.Laid.{laid-none}
 use Rattle.formats.specs.Number.{digits}
 use Rattle.channels.specs.Channel.{widthOf}
-use Rattle.channels.specs.NumberLaws.{part-laid}
+use Rattle.stored_numbers.specs.NumberLaws.{part-laid}
 use Rattle.channels.specs.Stored.{valueOf, storedOf, fits, stored-above}
 use Rattle.channels.proofs.Numbers.{above-fits}
 use Rattle.descriptions.specs.Description.{encodeAttribute}

@@ -13,7 +13,7 @@ use Rattle.formats.specs.Laid.{Laid, Owed, laid-length, laid-more, room-first, 
 use Rattle.formats.specs.Number.{digits}
 use Rattle.formats.specs.Writes.{encodeEach}
 use Rattle.channels.specs.Channel.{channels, signedOf, widthOf}
-use Rattle.channels.specs.NumberLaws.{number-laid}
+use Rattle.stored_numbers.specs.NumberLaws.{number-laid}
 use Rattle.descriptions.specs.Description.{absent, encodeChannel, encodeDescription, fitsDescriptor, allFit, every}
 use Rattle.description_judging.proofs.Judging.{every-holds}
 use Rattle.description_writing.proofs.Laying.{left, left-next, left-none}

@@ -14,7 +14,7 @@ use Rattle.formats.specs.Number as reader
 use Rattle.formats.specs.Reader.{ok, readAt}
 use Rattle.channels.proofs.Numbers.{value-fits}
 use Rattle.channels.specs.Channel.{widthOf}
-use Rattle.channels.specs.NumberLaws.{part-read}
+use Rattle.stored_numbers.specs.NumberLaws.{part-read}
 use Rattle.channels.specs.Stored.{valueOf, value-above}
 use Rattle.descriptions.proofs.Parts.{attribute-given, attribute-none}
 use Rattle.descriptions.proofs.attribute_at.Statement.{statement}

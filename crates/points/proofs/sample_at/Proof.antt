@@ -4,7 +4,7 @@ use native.Mathlib.Omega.{arith}
 use mir.Syntax.{w32}
 use mir.ValLaws.{toZ-ofZ}
 use Rattle.channels.specs.Channel.{widthOf}
-use Rattle.channels.specs.NumberLaws.{number-read}
+use Rattle.stored_numbers.specs.NumberLaws.{number-read}
 use Rattle.channels.specs.Switch.{state-found, state-refused}
 use Rattle.points.specs.Parts.{sampled}
 use Rattle.points.proofs.Samples.{one-or-two, sample-none, switch-ok, switch-bad, wide-size, wide-short, wide-ok}

@@ -9,7 +9,7 @@ use borrow.Author.Tests.{not-true, not-false}
 use Rattle.formats.specs.Laid.{Room, laid-none, laid-more, room-first, room-rest, within-laid}
 use Rattle.formats.specs.Number.{digits}
 use Rattle.channels.specs.Channel.{widthOf}
-use Rattle.channels.specs.NumberLaws.{number-laid}
+use Rattle.stored_numbers.specs.NumberLaws.{number-laid}
 use Rattle.records.specs.Record.{encodeExtended}
 use Rattle.record_writing.proofs.Laying.{wanted-room, wanted-laid}
 use borrow.Author.Needs.{needs}

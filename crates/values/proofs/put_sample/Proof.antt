@@ -8,8 +8,8 @@ use mir.Syntax.{w32}
 use mir.ValLaws.{toZ-ofZ}
 use Rattle.formats.specs.Number.{digits, length-digits}
 use Rattle.channels.specs.Channel.{widthOf}
-use Rattle.channels.specs.Numbers.{putNumber}
-use Rattle.channels.specs.NumberLaws.{part-laid}
+use Rattle.stored_numbers.specs.Numbers.{putNumber}
+use Rattle.stored_numbers.specs.NumberLaws.{part-laid}
 use Rattle.points.specs.Points.{sampleSize}
 use Rattle.values.specs.Values.{storedSample, numberIn, sampleBytes}
 use Rattle.values.proofs.put_sample.Statement.{statement}

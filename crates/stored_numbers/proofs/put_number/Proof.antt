@@ -1,4 +1,4 @@
--- `channels::put_number` meets its contract: the two tests together are the definition's, and then the digits of the two formats, by cases.
+-- `stored_numbers::put_number` meets its contract: the two tests together are the definition's, and then the digits of the two formats, by cases.
 use mathlib.Core.Path.{_≡_, sym, ap, _∙_}
 use Prim.Native.Nat.{_+_, _≤_}
 use native.Mathlib.Omega.{arith}
@@ -7,12 +7,12 @@ use lib.ListN.{length, length-set}
 use Rattle.formats.specs.Put.{puts}
 use Rattle.formats.specs.Lent.{writing}
 use Rattle.formats.specs.Number.{two-digits, one-digit}
 use Rattle.channels.specs.Channel.{widthOf}
-use Rattle.channels.specs.Numbers.{putNumber}
-use Rattle.channels.specs.NumberLaws.{put-there, put-crowded}
+use Rattle.stored_numbers.specs.Numbers.{putNumber}
+use Rattle.stored_numbers.specs.NumberLaws.{put-there, put-crowded}
 use Rattle.channels.specs.declared.Format.{Format}
-use Rattle.channels.proofs.put_number.Statement.{statement}
-use Rattle.channels.proofs.put_number.Tie as tie
+use Rattle.stored_numbers.proofs.put_number.Statement.{statement}
+use Rattle.stored_numbers.proofs.put_number.Tie as tie
 
 width-requires : tie.Need-width-requires
 width-requires c κs = search needs

@@ -11,7 +11,7 @@ use Rattle.formats.specs.Number.{number, digits, value, at-number, length-digit
 use Rattle.formats.specs.Put.{puts, puts-is}
 use Rattle.formats.specs.Laid.{Room, Laid}
 use Rattle.formats.specs.Lent.{writing}
-use Rattle.channels.specs.Numbers.{numberAt, putNumber}
+use Rattle.stored_numbers.specs.Numbers.{numberAt, putNumber}
 
 -- ---- Where the bytes are there, and where they are not
 

@@ -1,16 +1,16 @@
--- `channels::number_at` meets its contract: the two tests together are the definition's, and then it is one byte or two, by the format.
+-- `stored_numbers::number_at` meets its contract: the two tests together are the definition's, and then it is one byte or two, by the format.
 use mathlib.Core.Path.{_≡_, sym, ap, _∙_}
 use Prim.Native.Nat.{_+_, _≤_}
 use native.Mathlib.Omega.{arith}
 use borrow.Author.Needs.{needs}
 use lib.ListN.{length}
 use Rattle.formats.specs.Number.{value-one, value-two}
 use Rattle.channels.specs.Channel.{widthOf}
-use Rattle.channels.specs.Numbers.{numberAt}
-use Rattle.channels.specs.NumberLaws.{number-there, number-cut}
+use Rattle.stored_numbers.specs.Numbers.{numberAt}
+use Rattle.stored_numbers.specs.NumberLaws.{number-there, number-cut}
 use Rattle.channels.specs.declared.Format.{Format}
-use Rattle.channels.proofs.number_at.Statement.{statement}
-use Rattle.channels.proofs.number_at.Tie as tie
+use Rattle.stored_numbers.proofs.number_at.Statement.{statement}
+use Rattle.stored_numbers.proofs.number_at.Tie as tie
 
 width-requires : tie.Need-width-requires
 width-requires c κs = search needs

@@ -1,4 +1,4 @@
-// The questions that write: a record, and a template.
+// The questions that write, a record and a template: each is read from its words, asked of the library, and answered.
 ghost use Prim.Native.Nat.{_≤_};
 use answers::Answer;
 use channels::Description;
@@ -14,8 +14,13 @@ fn first<'a>(values: &'a [i32; 131072], count: usize) -> &'a [i32] {
     &all[0..count]
 }
 
+// The extended data are the first bytes of their space.
+fn extended_data<'a>(space: &'a [u8; 131072], count: usize) -> &'a [u8] {
+    words::part(space, 0, count)
+}
+
 // What `record_at` reads, and channels.
-pub(crate) fn write(text: &mut [u8; 65536], used: u16, line: &[u8], at: usize) -> u16 {
+pub fn write(text: &mut [u8; 65536], used: u16, line: &[u8], at: usize) -> u16 {
     let mut values = [0; 131072];
     let mut space = [0; 131072];
     let wanted = fields::record_at(line, at, &mut values, &mut space);
@@ -29,7 +34,7 @@ pub(crate) fn write(text: &mut [u8; 65536], used: u16, line: &[u8], at: usize) -
         sayings::description_at(line, wanted.behind),
         wanted,
         first(&values, wanted.given),
-        crate::lent(&space, wanted.lent),
+        extended_data(&space, wanted.lent),
     )
 }
 
@@ -75,7 +80,7 @@ fn put(text: &mut [u8; 65536], start: u16, answer: Answer, out: &[u8; 131072], r
 }
 
 // What `template_at` reads, and channels.
-pub(crate) fn write_template(text: &mut [u8; 65536], used: u16, line: &[u8], at: usize) -> u16 {
+pub fn write_template(text: &mut [u8; 65536], used: u16, line: &[u8], at: usize) -> u16 {
     let template = fields::template_at(line, at);
     let reason = fields::first_of(template.reason, sayings::reason_at(line, template.behind));
     if reason != words::NO_REASON {
