@@ -1,4 +1,4 @@
-// Sample points of ISO/IEC 19794-7:2007 (7.4.2, 8.4), at the width of either format: measured, judged, set out as places, and put.
+// Sample points of ISO/IEC 19794-7:2007 (7.4.2, 8.4), at the width of either format: measured, judged, and set out as places.
 use channels::Format;
 use channels::Place;
 use channels::Switch;

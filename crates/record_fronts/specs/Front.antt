@@ -23,7 +23,7 @@ identification = do
   literal 2 identifierBytes tt
   literal 3 versionBytes tt
 
--- what opens a body says: whether extended data are announced, and the number of points
+-- what the opening of a body says: whether extended data are announced, and the number of points
 pub record Opening : Type 0 where
   pub announced : Bool
   pub count : ℕ
