@@ -1,6 +1,6 @@
 // Answers, as words: what a function of the library answered, put into the text without its line feed.
 use channels::Place;
-use record_parts::Pointed;
+use record_points::Pointed;
 use record_reading::Verdict;
 use refusals::Refusal;
 use refusals::Where;

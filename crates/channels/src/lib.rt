@@ -3,9 +3,9 @@ ghost use mathlib.Core.Path.{_≡_};
 ghost use Prim.Native.Nat.{_^_, _≤_};
 ghost use lib.IntN.{pos};
 ghost use Rattle.channels.specs.Channel.{signs, signedOf, widthOf};
+ghost use Rattle.channels.specs.Descriptors.{isStored};
 ghost use Rattle.channels.specs.Stored as stored;
 ghost use Rattle.channels.specs.Stored.{valueOf, storedIf};
-ghost use Rattle.channels.specs.Switch.{stateIf, byteIf};
 
 // The channels, by their place in the order of 7.3.4.1.
 pub const X: usize = 0; // position
@@ -61,6 +61,13 @@ pub struct Descriptor {
 // A descriptor for each channel, in their order.
 pub struct Description {
     pub channels: [Descriptor; 16],
+}
+
+// Whether a sample point holds a number for the channel.
+pub fn is_stored(d: Descriptor) -> bool
+    ensures { λ r. ⌜ r ≡ isStored d ⌝ }
+{
+    d.included && !d.constant
 }
 
 // What a sample point says of a channel.
@@ -169,33 +176,4 @@ pub fn stored_of(format: Format, signed: bool, value: i32) -> Stored
         return Stored::Outside;
     }
     Stored::Number(number as u16)
-}
-
-// What a byte of S stands for, if anything.
-pub enum Switch {
-    State(i32),
-    NotAdmitted,
-}
-
-// The state of the tip switch that a byte of a sample point stands for (7.4.2, as decided).
-pub fn state_of(byte: u8) -> Switch
-    ensures { λ r. ⌜ r ≡ stateIf byte ⌝ }
-{
-    if 1 < byte {
-        return Switch::NotAdmitted;
-    }
-    Switch::State(byte as i32)
-}
-
-// The byte of a sample point for a state of the tip switch.
-pub fn byte_of(state: i32) -> Stored
-    ensures { λ r. ⌜ r ≡ byteIf state ⌝ }
-{
-    if state < 0 {
-        return Stored::Outside;
-    }
-    if 2 <= state {
-        return Stored::Outside;
-    }
-    Stored::Number(state as u16)
 }

@@ -11,7 +11,8 @@ use Rattle.descriptions.specs.Description.{description}
 use Rattle.descriptions.specs.Read.{described}
 use Rattle.records.specs.Record.{fullRecord}
 use Rattle.record_reading.specs.Verdict.{judged}
-use Rattle.record_parts.specs.Parts.{placesIn, extendedPlace, extendedSize, restPlace, restSize}
+use Rattle.record_points.specs.Pointing.{placesIn}
+use Rattle.record_parts.specs.Parts.{extendedPlace, extendedSize, restPlace, restSize}
 use Rattle.record_writing.specs.Write.{writeOf}
 use Rattle.walks.specs.Walk.{stepOf}
 use Rattle.templates.specs.Reading.{templateOf}

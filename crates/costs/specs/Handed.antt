@@ -20,7 +20,8 @@ use Rattle.channels.specs.declared.Descriptor.{Descriptor}
 use Rattle.channels.specs.declared.Description.{Description}
 use Rattle.channels.specs.declared.Place.{Place}
 use Rattle.channels.specs.declared.Place.the-variants.{Absent, Constant, Number}
-use Rattle.descriptions.specs.Description.{absent, description}
+use Rattle.channels.specs.Descriptors.{absent}
+use Rattle.descriptions.specs.Description.{description}
 use Rattle.descriptions.specs.Read.{described}
 use Rattle.descriptions.specs.declared.Described.{Described}
 use Rattle.record_reading.specs.declared.Verdict.{Verdict}

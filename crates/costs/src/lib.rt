@@ -10,7 +10,8 @@ ghost use Rattle.descriptions.specs.Description.{description};
 ghost use Rattle.descriptions.specs.Read.{described};
 ghost use Rattle.records.specs.Record.{fullRecord};
 ghost use Rattle.record_reading.specs.Verdict.{judged};
-ghost use Rattle.record_parts.specs.Parts.{placesIn, extendedPlace, extendedSize, restPlace, restSize};
+ghost use Rattle.record_points.specs.Pointing.{placesIn};
+ghost use Rattle.record_parts.specs.Parts.{extendedPlace, extendedSize, restPlace, restSize};
 ghost use Rattle.record_writing.specs.Write.{writeOf};
 ghost use Rattle.walks.specs.Walk.{stepOf};
 ghost use Rattle.templates.specs.Reading.{templateOf};
@@ -184,7 +185,7 @@ fn seat_of(place: Place) -> Seat
 pub extern "C" fn costs_point(bytes: &[u8], index: usize, channel: usize) -> Seat
     ensures { λ r. ⌜ r ≡ handedPoint channel (placesIn index (run fullRecord (now (bytes .entry)))) ⌝ }
 {
-    let places = record_parts::point(bytes, index);
+    let places = record_points::point(bytes, index);
     let of = channel % 16;
     let place = places[of];
     seat_of(place)

@@ -14,10 +14,11 @@ use Rattle.channels.specs.declared.Description.{Description}
 use Rattle.channels.specs.declared.Place.{Place}
 use Rattle.records.specs.Record.{fullRecord}
 use Rattle.record_reading.specs.Verdict.{verdictFrom, judged, judgedWhole}
-use Rattle.record_parts.specs.Parts.{extendedPlace, extendedSize, restPlace, restSize, pointedAt, placesIn}
+use Rattle.record_points.specs.Pointing.{pointedAt, placesIn}
+use Rattle.record_parts.specs.Parts.{extendedPlace, extendedSize, restPlace, restSize}
 use Rattle.record_reading.specs.declared.Verdict.{Verdict}
 use Rattle.record_reading.specs.declared.Judged.{Judged}
-use Rattle.record_parts.specs.declared.Pointed.{Pointed}
+use Rattle.record_points.specs.declared.Pointed.{Pointed}
 use Rattle.record_writing.specs.Write.{writeOf}
 use Rattle.record_writing.specs.declared.Written.{Written}
 

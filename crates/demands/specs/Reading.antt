@@ -15,13 +15,14 @@ use Rattle.formats.specs.Reader.{ok, run}
 use Rattle.refusals.specs.declared.Refusal.{Refusal}
 use Rattle.refusals.specs.declared.Refusal.the-variants.{NoPoint}
 use Rattle.channels.specs.declared.Place.{Place}
-use Rattle.points.specs.Places.{placesOf, nowhere}
+use Rattle.point_places.specs.Places.{placesOf, nowhere}
 use Rattle.records.specs.Record.{fullRecord, encode, included, stored, IsRecord, extendedBytes}
-use Rattle.record_parts.specs.Parts.{extendedPlace, extendedSize, restPlace, restSize, pointedAt, placesIn}
+use Rattle.record_points.specs.Pointing.{pointedAt, placesIn}
+use Rattle.record_parts.specs.Parts.{extendedPlace, extendedSize, restPlace, restSize}
 use Rattle.record_reading.specs.declared.Judged.{Judged}
 use Rattle.record_reading.specs.declared.Verdict.the-variants as verdict
-use Rattle.record_parts.specs.declared.Pointed.{Pointed}
-use Rattle.record_parts.specs.declared.Pointed.the-variants as pointed
+use Rattle.record_points.specs.declared.Pointed.{Pointed}
+use Rattle.record_points.specs.declared.Pointed.the-variants as pointed
 use Rattle.demands.specs.Promises as promises
 use Rattle.demands.specs.JudgingLaws.{record-is-read}
 use Rattle.demands.specs.ReadingLaws.{record-ends-in, last-part, NothingIn, nothing-in}

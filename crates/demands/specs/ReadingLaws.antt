@@ -16,15 +16,16 @@ use Rattle.formats.specs.Writes.{All}
 use Rattle.refusals.specs.declared.Refusal.{Refusal}
 use Rattle.channels.specs.declared.Place.{Place}
 use Rattle.points.specs.Points.{storedFrom, channels, encodePoint}
-use Rattle.points.specs.Places.{unstored, placesOf, nowhere}
+use Rattle.point_places.specs.Places.{unstored, placesOf, nowhere}
 use Rattle.values.specs.Values.{size, step, stride, pointsOf}
 use Rattle.values.specs.OrderLaws.{points-many, number-is}
 use Rattle.values.specs.declared.Order.the-variants.{Point}
 use Rattle.records.specs.Record.{Record, stored, header, openingByte, encodeExtended, encode, extendedBytes}
 use Rattle.record_reading.specs.Verdict.{verdictFrom, judged}
-use Rattle.record_parts.specs.Parts.{extendedPlace, extendedSize, restPlace, restSize, pointedAt, placesIn}
+use Rattle.record_points.specs.Pointing.{pointedAt, placesIn}
+use Rattle.record_parts.specs.Parts.{extendedPlace, extendedSize, restPlace, restSize}
 use Rattle.record_reading.specs.declared.Verdict.the-variants as verdict
-use Rattle.record_parts.specs.declared.Pointed.the-variants as pointed
+use Rattle.record_points.specs.declared.Pointed.the-variants as pointed
 use Rattle.demands.specs.Saying.{numbersIn, numbersOf}
 
 -- ---- The extended data are a record's last bytes

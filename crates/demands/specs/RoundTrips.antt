@@ -14,7 +14,7 @@ use Rattle.formats.specs.Reader.{ok, run}
 use Rattle.refusals.specs.declared.Refusal.the-variants.{NoPoint}
 use Rattle.channels.specs.declared.Description.{Description}
 use Rattle.channels.specs.declared.Place.{Place}
-use Rattle.points.specs.Places.{placesOf, nowhere}
+use Rattle.point_places.specs.Places.{placesOf, nowhere}
 use Rattle.values.specs.Values.{size, pointsOf}
 use Rattle.values.specs.OrderLaws.{points-many, fits-valid, valid-sizes}
 use Rattle.values.specs.declared.Order.the-variants.{Point}
@@ -22,8 +22,8 @@ use Rattle.records.specs.Record.{Record, fullRecord, encode, included, stored, 
 use Rattle.record_reading.specs.Verdict.{judged, judgedWhole}
 use Rattle.record_reading.specs.declared.Verdict.the-variants as verdict
 use Rattle.record_reading.specs.declared.Judged.{Judged}
-use Rattle.record_parts.specs.declared.Pointed.{Pointed}
-use Rattle.record_parts.specs.declared.Pointed.the-variants as pointed
+use Rattle.record_points.specs.declared.Pointed.{Pointed}
+use Rattle.record_points.specs.declared.Pointed.the-variants as pointed
 use Rattle.record_writing.specs.Write.{recordOf, writeOf}
 use Rattle.record_writing.specs.WriteLaws.{passes-valid}
 use Rattle.record_writing.specs.RoundTrips as trips
@@ -91,7 +91,7 @@ module _ (d : Description) (sixteen : length (d .channels) ≡ 16) (count : ℕ)
         → r ≡ placesOf (included d) (stored d) (take (size (stored d)) (drop (index * size (stored d)) values))
     unfolding recordOf
     written-point-told r answers =
-        let fit = fits-valid 2 (stored d) Point count values (told .passes .fitting) in
+        let fit = fits-valid 2 (stored d) Point count values (told .passes .numbered .fitting) in
         point-told s n within the-record index amid r answers
         ∙ ap (placesOf (included d) (stored d)) (numbers-at count (size (stored d)) values (fit .0) (valid-sizes 2 (stored d) (pointsOf Point count (size (stored d)) values) (fit .1)) index inside)
 

@@ -3,7 +3,7 @@
 // so the checker holds the names that the claims speak of to the contracts.
 use channels::Description;
 use channels::Place;
-use record_parts::Pointed;
+use record_points::Pointed;
 use record_reading::Judged;
 use record_reading::Verdict;
 use record_writing::Written;
@@ -30,13 +30,13 @@ fn judge_whole(bytes: &[u8]) -> Judged
 fn judge_point(bytes: &[u8], index: usize) -> Pointed
     ensures { λ r. ⌜ promises.judgePoint (now (bytes .entry)) index r ⌝ }
 {
-    record_parts::judge_point(bytes, index)
+    record_points::judge_point(bytes, index)
 }
 
 fn point(bytes: &[u8], index: usize) -> [Place; 16]
     ensures { λ r. ⌜ promises.point (now (bytes .entry)) index r ⌝ }
 {
-    record_parts::point(bytes, index)
+    record_points::point(bytes, index)
 }
 
 fn extended<'a>(bytes: &'a [u8]) -> &'a [u8]

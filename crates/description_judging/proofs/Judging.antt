@@ -17,7 +17,8 @@ use Rattle.channels.specs.Channel.{signedOf}
 use Rattle.channels.specs.Stored.{valueOf, fits, between}
 use Rattle.channels.specs.declared.Attribute.{Attribute}
 use Rattle.channels.specs.declared.Descriptor.{Descriptor}
-use Rattle.descriptions.specs.Description.{absent, flagless, tidyAttribute, tidyDescriptor, fitsAttribute, fitsDescriptor, every}
+use Rattle.channels.specs.Descriptors.{absent}
+use Rattle.descriptions.specs.Description.{flagless, tidyAttribute, tidyDescriptor, fitsAttribute, fitsDescriptor, every}
 
 -- the bits of a number are zero where the number is
 pub zero-bits : (z : ℤ) → SFits w32 z → eqb (ofZ w32 z) 0 ≡ eqb (natAbs z) 0

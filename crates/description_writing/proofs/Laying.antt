@@ -17,7 +17,8 @@ use Rattle.channels.specs.Channel.{channels, signedOf}
 use Rattle.channels.specs.Stored.{valueOf, storedOf, fits}
 use Rattle.channels.specs.declared.Attribute.{Attribute}
 use Rattle.channels.specs.declared.Descriptor.{Descriptor}
-use Rattle.descriptions.specs.Description.{absent, encodeAttribute, encodeDescriptor, encodeChannel, fitsAttribute, fitsDescriptor}
+use Rattle.channels.specs.Descriptors.{absent}
+use Rattle.descriptions.specs.Description.{encodeAttribute, encodeDescriptor, encodeChannel, fitsAttribute, fitsDescriptor}
 
 -- ---- An attribute
 

@@ -23,7 +23,8 @@ use Rattle.channels.specs.declared.Attribute.{Attribute}
 use Rattle.channels.specs.declared.Descriptor.{Descriptor}
 use Rattle.formats.specs.declared.Failure.the-variants.{Short}
 use Rattle.formats.specs.declared.Outcome.the-variants.{Done}
-use Rattle.descriptions.specs.Description.{announced, reserved, attribute, descriptor, isStored}
+use Rattle.channels.specs.Descriptors.{isStored}
+use Rattle.descriptions.specs.Description.{announced, reserved, attribute, descriptor}
 use Rattle.descriptions.specs.Read.{attributesSize, descriptorSize}
 use Rattle.descriptions.proofs.Parts.{descriptor-out, descriptor-refused}
 

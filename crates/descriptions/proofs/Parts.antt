@@ -17,7 +17,8 @@ use Rattle.formats.specs.Binary.{bit}
 use Rattle.channels.specs.Channel.{signedOf}
 use Rattle.channels.specs.Stored.{valueOf}
 use Rattle.channels.specs.declared.Descriptor.{Descriptor}
-use Rattle.descriptions.specs.Description.{hasXY, reserved, noAttribute, attribute, descriptor, description}
+use Rattle.channels.specs.Descriptors.{noAttribute}
+use Rattle.descriptions.specs.Description.{hasXY, reserved, attribute, descriptor, description}
 use Rattle.descriptions.specs.Read.{channelsFrom}
 use Rattle.descriptions.specs.declared.AttributeRead.{AttributeRead}
 

@@ -20,7 +20,8 @@ use Rattle.formats.specs.declared.Outcome.the-variants.{Done, Failed}
 use Rattle.channels.specs.Channel.{channels, nth-channel}
 use Rattle.channels.specs.declared.Descriptor.{Descriptor}
 use Rattle.channels.specs.declared.Description.{Description}
-use Rattle.descriptions.specs.Description.{absent, descriptor, includes, channelOf, isStored}
+use Rattle.channels.specs.Descriptors.{absent, isStored}
+use Rattle.descriptions.specs.Description.{descriptor, includes, channelOf}
 use Rattle.descriptions.specs.Read.{described, ended, behind, channelsFrom}
 
 -- ---- Lists

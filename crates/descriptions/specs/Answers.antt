@@ -5,13 +5,9 @@ use Prim.Native.Nat.{ℕ}
 use Rattle.formats.specs.Reader.{readAt}
 use Rattle.formats.specs.OneAnswer.{OneAnswer, named}
 use Rattle.channels.specs.Channel.{widthOf}
-use Rattle.channels.specs.declared.Descriptor.{Descriptor}
 use Rattle.channels.specs.declared.Format.{Format}
-use Rattle.descriptions.specs.Description.{description, isStored}
+use Rattle.descriptions.specs.Description.{description}
 use Rattle.descriptions.specs.Read.{nothing, described, measured}
-
-pub one-stored : (d : Descriptor) → OneAnswer (λ r. r ≡ isStored d)
-one-stored d = named
 
 pub one-nothing : OneAnswer (λ r. r ≡ nothing)
 one-nothing = named

@@ -5,12 +5,13 @@ use mathlib.Core.Bool.{Bool, true, false, not, cond, _&&_, _||_}
 use mathlib.Core.List.{List, [], _∷_, _++_, map}
 use Prim.Native.Nat.{ℕ, suc, _+_, _-_, _*_}
 use lib.Dec.{T, eqb}
-use lib.IntN.{pos, natAbs}
+use lib.IntN.{natAbs}
 use lib.ListN.{length, getD}
 use Rattle.formats.specs.Reader.{Test, Reader, done, one, any, each, _>>=_, _>>_}
 use Rattle.formats.specs.Number.{number, digits}
 use Rattle.formats.specs.Writes.{encodeEach}
 use Rattle.channels.specs.Channel.{X, Y, channels, signedOf}
+use Rattle.channels.specs.Descriptors.{noAttribute, absent}
 use Rattle.channels.specs.Stored.{valueOf, storedOf, fits}
 use Rattle.channels.specs.declared.Attribute.{Attribute}
 use Rattle.channels.specs.declared.Descriptor.{Descriptor}
@@ -26,22 +27,6 @@ hasXY = record { holds = λ b. bit 8 b && bit 7 b; fault = 4; sample = 0xC0; fai
 -- the low bit of a descriptor byte is zero, or refusal 5 (7.3.4.2)
 abbrev pub reserved : Test
 reserved = record { holds = λ b. not (bit 1 b); fault = 5; sample = 0; fair = tt }
-
--- an attribute that is not given, and a channel that is not included
-abbrev pub noAttribute : Attribute
-noAttribute = record { given = false; number = pos 0 }
-
-abbrev pub absent : Descriptor
-absent = record {
-  included = false;
-  scaling = noAttribute;
-  minimum = noAttribute;
-  maximum = noAttribute;
-  mean = noAttribute;
-  deviation = noAttribute;
-  constant = false;
-  detrended = false;
-}
 
 -- an attribute: w bytes where its flag is set, else none (7.3.4.3 to 7.3.4.5)
 unfoldable pub attribute : (w : ℕ) (signed flag : Bool) → Reader Attribute
@@ -90,10 +75,6 @@ description w = do
   second ← one any
   ds ← each channels (channelOf w (first * 256 + second))
   done (record { channels = ds })
-
--- a sample point holds a number of a channel that is included and not constant (7.3.4.2)
-abbrev pub isStored : Descriptor → Bool
-isStored d = d .included && not (d .constant)
 
 -- ---- How it is written
 

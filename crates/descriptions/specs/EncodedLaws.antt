@@ -10,7 +10,7 @@ use borrow.Author.Tests.{not-true}
 use lib.IntN.{ℤ, pos, negsuc, natAbs}
 use lib.ListN.{length, getD, length-map, List·getD-map}
 use Rattle.formats.specs.Reader.{Reader, done, any}
-use Rattle.formats.specs.Number.{number, digits, writes-number, two-digits}
+use Rattle.formats.specs.Number.{number, writes-number, two-digits}
 use Rattle.formats.specs.Writes.{Writes, Each, writes-as, writes-map, writes-done, writes-one, writes-each, writes-line}
 use Rattle.channels.specs.Channel.{channels, signedOf, from}
 use Rattle.channels.specs.Stored.{valueOf, storedOf, fits, stored-value, value-fits, stored-below, value-stored}
@@ -18,7 +18,8 @@ use Rattle.channels.specs.declared.Attribute.{Attribute}
 use Rattle.channels.specs.declared.Descriptor.{Descriptor}
 use Rattle.channels.specs.declared.Description.{Description}
 use Rattle.formats.specs.Binary.{bit, binary, bits, binary-bits, bits-binary, binary-below}
-use Rattle.descriptions.specs.Description.{hasXY, reserved, noAttribute, absent, attribute, descriptor, includes, channelOf, description, encodeAttribute, descriptorByte, encodeDescriptor, encodeChannel, encodeDescription, includesXY, tidyAttribute, flagless, tidyDescriptor, fitsAttribute, fitsDescriptor, every, tidy, allFit, Valid}
+use Rattle.channels.specs.Descriptors.{noAttribute, absent}
+use Rattle.descriptions.specs.Description.{hasXY, reserved, attribute, descriptor, includes, channelOf, description, encodeAttribute, descriptorByte, encodeDescriptor, encodeChannel, encodeDescription, includesXY, tidyAttribute, flagless, tidyDescriptor, fitsAttribute, fitsDescriptor, every, tidy, allFit, Valid}
 
 -- ---- An attribute
 

@@ -13,7 +13,8 @@ use Rattle.formats.specs.Writes.{Writes, writes-as, writes-one}
 use Rattle.formats.specs.Faults.{Faults, Never, Then, here, later, InPart, faults-as, faults-never, faults-last, faults-bind, faults-one, faults-each, never-done, never-any, never-bind, never-number}
 use Rattle.channels.specs.Channel.{channels, signedOf}
 use Rattle.formats.specs.Binary.{bit}
-use Rattle.descriptions.specs.Description.{hasXY, reserved, absent, attribute, descriptor, includes, channelOf, description, encodeChannel}
+use Rattle.channels.specs.Descriptors.{absent}
+use Rattle.descriptions.specs.Description.{hasXY, reserved, attribute, descriptor, includes, channelOf, description, encodeChannel}
 use Rattle.descriptions.specs.EncodedLaws.{writes-channel}
 use Rattle.descriptions.specs.Rules.{Entry, Breaks, xOrY, descriptorBit}
 

@@ -16,7 +16,8 @@ use Rattle.formats.specs.declared.Outcome.the-variants.{Done, Failed}
 use Rattle.channels.specs.Channel.{channels}
 use Rattle.channels.specs.Stored.{valueOf}
 use Rattle.channels.specs.declared.Description.{Description}
-use Rattle.descriptions.specs.Description.{absent, channelOf, isStored}
+use Rattle.channels.specs.Descriptors.{absent, isStored}
+use Rattle.descriptions.specs.Description.{channelOf}
 use Rattle.descriptions.specs.declared.Inclusion.{Inclusion}
 use Rattle.descriptions.specs.declared.Described.{Described}
 use Rattle.descriptions.specs.declared.Measured.{Measured}

@@ -23,23 +23,24 @@ use Rattle.refusals.specs.declared.Judgement.{Judgement}
 use Rattle.refusals.specs.declared.Judgement.the-variants.{Passed, Refused}
 use Rattle.channels.specs.Channel.{signedOf}
 use Rattle.channels.specs.Stored.{offset, valueOf}
-use Rattle.channels.specs.Switch.{stateOf}
+use Rattle.tip_switch.specs.Switch.{stateOf}
 use Rattle.channels.specs.declared.Descriptor.{Descriptor}
 use Rattle.channels.specs.declared.Description.{Description}
 use Rattle.channels.specs.declared.Place.{Place}
 use Rattle.channels.specs.declared.Place.the-variants.{Absent, Constant, Number}
-use Rattle.descriptions.specs.Description.{noAttribute, absent, attribute, descriptor, includes, channelOf, description}
+use Rattle.channels.specs.Descriptors.{noAttribute, absent}
+use Rattle.descriptions.specs.Description.{attribute, descriptor, includes, channelOf, description}
 use Rattle.descriptions.specs.Read.{nothing}
 use Rattle.points.specs.Points.{storedFrom, channels, sample, point}
-use Rattle.points.specs.Places.{placesOf, nowhere}
+use Rattle.point_places.specs.Places.{placesOf, nowhere}
 use Rattle.records.specs.Record.{Record, extension, fullRecord, present}
 use Rattle.record_reading.specs.Verdict.{verdictFrom, descriptionIn, judged, judgedWhole}
-use Rattle.record_parts.specs.Parts.{pointedAt, placesIn}
+use Rattle.record_points.specs.Pointing.{pointedAt, placesIn}
 use Rattle.record_reading.specs.declared.Verdict.{Verdict}
 use Rattle.record_reading.specs.declared.Verdict.the-variants as verdict
 use Rattle.record_reading.specs.declared.Judged.{Judged}
-use Rattle.record_parts.specs.declared.Pointed.{Pointed}
-use Rattle.record_parts.specs.declared.Pointed.the-variants as pointed
+use Rattle.record_points.specs.declared.Pointed.{Pointed}
+use Rattle.record_points.specs.declared.Pointed.the-variants as pointed
 use Rattle.demands.specs.Shortest.{M}
 use Rattle.templates.specs.declared.Judged as judgement
 use Rattle.templates.specs.Reading as templates

@@ -1,7 +1,7 @@
 // The listing program: what stands in a file of joined records, told in lines of text.
 use channels::Format;
 use channels::Place;
-use points::PlaceRead;
+use point_places::PlaceRead;
 use refusals::Refusal;
 use refusals::Where;
 use walks::Found;
@@ -48,7 +48,7 @@ fn put_points(text: &mut [u8; 65536], start: u16, file: &[u8], place: usize) -> 
         used = put_index(text, used, index);
         let mut channel: usize = 0;
         while channel < 16 {
-            match points::place_at(
+            match point_places::place_at(
                 file,
                 at,
                 Format::Full,

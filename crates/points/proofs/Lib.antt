@@ -1,4 +1,3 @@
 pub mod Samples
 pub mod Walk
-pub mod Setting
 pub mod Past

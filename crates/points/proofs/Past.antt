@@ -13,7 +13,7 @@ use Rattle.formats.specs.declared.Failure.the-variants.{Short}
 use Rattle.formats.specs.declared.Outcome.the-variants.{Done, Failed}
 use Rattle.channels.specs.Channel.{S}
 use Rattle.points.specs.Points.{channels, sample, point, sampleSize, widths, width}
-use Rattle.points.proofs.Samples.{sample-none}
+use Rattle.points.specs.SampleLaws.{sample-none}
 
 module _ (w : ℕ) (some : 1 ≤ w) where
   sample-some : (channel : ℕ) → 1 ≤ sampleSize w channel

@@ -18,10 +18,11 @@ use Rattle.formats.specs.Writes.{All}
 use Rattle.formats.specs.declared.Failure.the-variants.{Short, Bad}
 use Rattle.formats.specs.declared.Outcome.the-variants.{Done, Failed}
 use Rattle.channels.specs.Channel.{S}
-use Rattle.channels.specs.Switch.{admitted}
+use Rattle.tip_switch.specs.Switch.{admitted}
 use Rattle.points.specs.Points.{sample, point, storedFrom, channels, widths, width}
 use Rattle.points.specs.Parts.{switched}
-use Rattle.points.proofs.Samples.{Wide, wide-size, wide-ok, wide-short, switch-short, switch-ok, switch-bad, each-jumps, no-switch, stored-in, width-in}
+use Rattle.points.specs.SampleLaws.{Wide, wide-size, wide-ok, wide-short, switch-short, switch-ok, switch-bad}
+use Rattle.points.proofs.Samples.{each-jumps, no-switch, stored-in, width-in}
 
 -- ---- The tests of the definition
 

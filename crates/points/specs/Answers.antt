@@ -9,8 +9,6 @@ use Rattle.formats.specs.Told.{told}
 use Rattle.channels.specs.Channel.{widthOf}
 use Rattle.channels.specs.declared.Format.{Format}
 use Rattle.points.specs.Points.{point, width}
-use Rattle.points.specs.Places.{placesIn}
-use Rattle.points.specs.Parts.{place, placeRead}
 
 pub one-width : (format : Format) (stored : List Bool) → OneAnswer (λ r. (r ≡ width (widthOf format) stored) × (r ≤ 32))
 one-width format stored r q e g = named r q (e .0) (g .0)
@@ -18,9 +16,3 @@ one-width format stored r q e g = named r q (e .0) (g .0)
 module _ (s : List ℕ) (start : ℕ) (format : Format) where
   pub one-judged : (stored : List Bool) (count : ℕ) → OneAnswer (λ r. r ≡ told (readAt (times count (point (widthOf format) stored)) s start))
   one-judged stored count = named
-
-  pub one-place : (channel : ℕ) (included stored : Bool) → OneAnswer (λ r. r ≡ placeRead (readAt (place (widthOf format) channel included stored) s start))
-  one-place channel included stored = named
-
-  pub one-places : (included stored : List Bool) → OneAnswer (λ r. r ≡ placesIn included stored (readAt (point (widthOf format) stored) s start))
-  one-places included stored = named

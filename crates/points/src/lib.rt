@@ -1,9 +1,8 @@
-// Sample points of ISO/IEC 19794-7:2007 (7.4.2, 8.4), at the width of either format: measured, judged, and set out as places.
+// Sample points of ISO/IEC 19794-7:2007 (7.4.2, 8.4), at the width of either format: measured and judged.
 use channels::Format;
-use channels::Place;
-use channels::Switch;
 use formats::Failure;
 use formats::Outcome;
+use tip_switch::Switch;
 ghost use mathlib.Core.Path.{_≡_};
 ghost use Prim.Native.Nat.{ℕ, _+_, _*_, _≤_, _<_};
 ghost use lib.ListN.{length, drop};
@@ -12,9 +11,8 @@ ghost use Rattle.formats.specs.Told.{told, repeated};
 ghost use Rattle.formats.specs.Jump.{ends};
 ghost use Rattle.formats.specs.declared.Outcome.the-variants.{Failed};
 ghost use Rattle.channels.specs.Channel.{widthOf};
-ghost use Rattle.points.specs.Points.{storedFrom, sample, point, sampleSize, widths, width as pointWidth};
-ghost use Rattle.points.specs.Places.{placesIn};
-ghost use Rattle.points.specs.Parts.{sampled, placeRead, place, switched};
+ghost use Rattle.points.specs.Points.{storedFrom, point, sampleSize, widths, width as pointWidth};
+ghost use Rattle.points.specs.Parts.{switched};
 
 // How many bytes a channel's number has in a sample point: one for S, as many as the format says for any other.
 fn sample_size(format: Format, channel: usize) -> usize
@@ -70,7 +68,7 @@ fn cut(bytes: &[u8], start: usize, offset: usize) -> Failure
     if bytes.len() - start <= offset {
         return Failure::Short;
     }
-    match channels::state_of(bytes[start + offset]) {
+    match tip_switch::state_of(bytes[start + offset]) {
         Switch::State(_) => Failure::Short,
         Switch::NotAdmitted => Failure::Bad(8, start + offset),
     }
@@ -97,7 +95,7 @@ fn walk_points(bytes: &[u8], start: usize, width: usize, offset: usize, count: u
     let mut at = start;
     let mut i: usize = 0;
     while i < whole {
-        let state = channels::state_of(bytes[at + offset]);
+        let state = tip_switch::state_of(bytes[at + offset]);
         let Switch::State(_) = state else {
             return Outcome::Failed(Failure::Bad(8, at + offset));
         };
@@ -150,111 +148,4 @@ pub fn judge(
         return Outcome::Done(start);
     }
     Outcome::Failed(Failure::Short)
-}
-
-// What a sample point holds of a channel and where that ends, or how reading it fails.
-enum Sample {
-    Number { value: i32, next: usize },
-    Failed(Failure),
-}
-
-// A channel's number in a sample point.
-fn sample_at(bytes: &[u8], at: usize, format: Format, channel: usize) -> Sample
-    ensures { λ r. ⌜ r ≡ sampled (readAt (sample (widthOf format) channel) (now (bytes .entry)) at) ⌝ }
-{
-    if bytes.len() <= at {
-        return Sample::Failed(Failure::Short);
-    }
-    if channel == channels::S {
-        match channels::state_of(bytes[at]) {
-            Switch::State(value) => Sample::Number {
-                value: value,
-                next: at + 1,
-            },
-            Switch::NotAdmitted => Sample::Failed(Failure::Bad(8, at)),
-        }
-    } else {
-        let size = sample_size(format, channel);
-        if bytes.len() - at < size {
-            return Sample::Failed(Failure::Short);
-        }
-        let number = stored_numbers::number_at(bytes, at, format);
-        let value = channels::value_of(format, channels::is_signed(channel), number);
-        Sample::Number {
-            value: value,
-            next: at + size,
-        }
-    }
-}
-
-// What a sample point says of a channel and where that ends, or how reading it fails.
-pub enum PlaceRead {
-    Read { place: Place, next: usize },
-    Failed(Failure),
-}
-
-// What stands at a place for a channel of a sample point, by its two flags. A channel that isn't stored has no bytes.
-pub fn place_at(
-    bytes: &[u8],
-    at: usize,
-    format: Format,
-    channel: usize,
-    included: bool,
-    stored: bool,
-) -> PlaceRead
-    ensures { λ r. ⌜ r ≡ placeRead (readAt (place (widthOf format) channel included stored) (now (bytes .entry)) at) ⌝ }
-{
-    if stored {
-        match sample_at(bytes, at, format, channel) {
-            Sample::Number { value, next } => PlaceRead::Read {
-                place: Place::Number(value),
-                next: next,
-            },
-            Sample::Failed(failure) => PlaceRead::Failed(failure),
-        }
-    } else {
-        let place = if included {
-            Place::Constant
-        } else {
-            Place::Absent
-        };
-        PlaceRead::Read {
-            place: place,
-            next: at,
-        }
-    }
-}
-
-// The sixteen places of the sample point that stands at a place of some bytes, all absent where none stands there:
-// why there is none, `judge` says of one point. One array is handed back: were there a second, each copy of it would be made place by place.
-pub fn places(
-    bytes: &[u8],
-    start: usize,
-    format: Format,
-    included: [bool; 16],
-    stored: [bool; 16],
-) -> [Place; 16]
-    ensures { λ r. ⌜ r ≡ placesIn included stored (readAt (point (widthOf format) stored) (now (bytes .entry)) start) ⌝ }
-{
-    let mut places = [Place::Absent; 16];
-    let mut at = start;
-    let mut channel: usize = 0;
-    while channel < 16 {
-        let found = place_at(
-            bytes,
-            at,
-            format,
-            channel,
-            included[channel],
-            stored[channel],
-        );
-        let PlaceRead::Read { place, next } = found else {
-            places = [Place::Absent; 16];
-            return places;
-        };
-        places[channel] = place;
-        at = next;
-        channel += 1;
-    }
-    places
 }

@@ -2,7 +2,7 @@
 mod thousandths;
 
 use hex::Amount;
-use record_parts::Pointed;
+use record_points::Pointed;
 use refusals::Judgement;
 
 const JUDGE: usize = 0;
@@ -129,10 +129,10 @@ fn put_bytes(text: &mut [u8; 65536], start: u16, bytes: &[u8]) -> u16 {
 }
 
 fn point(text: &mut [u8; 65536], start: u16, bytes: &[u8], index: usize) -> u16 {
-    let pointed = record_parts::judge_point(bytes, index);
+    let pointed = record_points::judge_point(bytes, index);
     let used = answers::put(text, start, answers::of_pointed(pointed));
     if let Pointed::Point = pointed {
-        return answers::put_places(text, used, record_parts::point(bytes, index));
+        return answers::put_places(text, used, record_points::point(bytes, index));
     }
     used
 }

@@ -3,16 +3,12 @@ use mathlib.Core.Path.{_≡_}
 use mathlib.Core.List.{List}
 use Prim.Native.Nat.{ℕ}
 use Rattle.formats.specs.Reader.{readAt}
-use Rattle.formats.specs.Told.{told}
 use Rattle.formats.specs.OneAnswer.{OneAnswer, named}
 use Rattle.descriptions.specs.declared.Measured.{Measured}
-use Rattle.record_fronts.specs.Front.{identification, front}
+use Rattle.record_fronts.specs.Front.{front}
 use Rattle.record_fronts.specs.Fronted.{fronted, frontBehind}
 
 module _ (s : List ℕ) where
-  pub one-identification : (start : ℕ) → OneAnswer (λ r. r ≡ told (readAt identification s start))
-  one-identification start = named
-
   pub one-front-behind : (measured : Measured) → OneAnswer (λ r. r ≡ frontBehind s measured)
   one-front-behind measured = named
 

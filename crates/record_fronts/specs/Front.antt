@@ -9,19 +9,14 @@ use Rattle.formats.specs.Number.{number}
 use Rattle.channels.specs.declared.Description.{Description}
 use Rattle.descriptions.specs.Description.{description}
 use Rattle.points.specs.Points.{point}
-use Rattle.records.specs.Record.{Record, identifierBytes, versionBytes, stored, opening, extension, fullRecord}
+use Rattle.records.specs.Record.{Record, stored, opening, extension, fullRecord}
+use Rattle.identifications.specs.Identification.{identification}
 
 -- what stands before the points: the channels, whether extended data are announced, and the number of points
 pub record Heading : Type 0 where
   pub description : Description
   pub announced : Bool
   pub count : ℕ
-
--- the format identifier and the version
-unfoldable pub identification : Reader (Unit {0})
-identification = do
-  literal 2 identifierBytes tt
-  literal 3 versionBytes tt
 
 -- what the opening of a body says: whether extended data are announced, and the number of points
 pub record Opening : Type 0 where

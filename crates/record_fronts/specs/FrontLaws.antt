@@ -2,20 +2,20 @@
 use mathlib.Core.Path.{_≡_, refl, sym, ap, _∙_}
 use mathlib.Core.Bool.{Bool}
 use mathlib.Core.List.{List}
-use Prim.Native.Nat.{ℕ, _≤_}
-use lib.ListN.{length}
+use Prim.Native.Nat.{ℕ}
 use Rattle.formats.specs.Bytes.{impossible}
-use Rattle.formats.specs.Reader.{Answer, ok, short, bad, andThen, done, readAt, bind, literal}
-use Rattle.formats.specs.Compose.{at-bind, at-done, at-bind-ok, at-short}
-use Rattle.formats.specs.Told.{told, failed, told-done, told-failed, bind-done, bind-failed, at-bind-failed, matched, literal-told, done-within}
+use Rattle.formats.specs.Reader.{Answer, ok, short, bad, andThen, done, readAt, bind}
+use Rattle.formats.specs.Compose.{at-bind, at-done, at-bind-ok}
+use Rattle.formats.specs.Told.{told, failed, told-done, told-failed, at-bind-failed}
 use Rattle.formats.specs.declared.Failure.{Failure}
 use Rattle.formats.specs.declared.Failure.the-variants.{Short, Bad}
 use Rattle.formats.specs.declared.Outcome.the-variants.{Done, Failed}
 use Rattle.channels.specs.declared.Description.{Description}
 use Rattle.descriptions.specs.Description.{description}
 use Rattle.descriptions.specs.Read.{described, measured}
-use Rattle.records.specs.Record.{identifierBytes, versionBytes, included, stored}
-use Rattle.record_fronts.specs.Front.{Opening, headed, identification, opened, channelled, front}
+use Rattle.records.specs.Record.{included, stored}
+use Rattle.identifications.specs.Identification.{identification}
+use Rattle.record_fronts.specs.Front.{Opening, headed, opened, channelled, front}
 use Rattle.record_fronts.specs.Fronted.{openedAs, frontIn, unfronted, fronted, frontFrom, frontAfter, frontBehind}
 
 -- a failure leaves no front
@@ -24,32 +24,9 @@ unfolding told frontIn
 fronted-failed Short = refl
 fronted-failed (Bad k p) = refl
 
+-- ---- What follows the identifier and the version
+
 module _ (s : List ℕ) (start : ℕ) where
-  -- ---- The identifier and the version
-
-  identified : told (readAt (literal 2 identifierBytes tt) s start) ≡ matched s start identifierBytes 2
-  identified = literal-told 2 identifierBytes tt s start
-
-  pub identifier-within : start ≤ length s → {n : ℕ} → matched s start identifierBytes 2 ≡ Done n → n ≤ length s
-  identifier-within h e = done-within (literal 2 identifierBytes tt) s start h (sym (identified ∙ e)) .1
-
-  pub identification-done : {n : ℕ} → matched s start identifierBytes 2 ≡ Done n → told (readAt identification s start) ≡ matched s n versionBytes 3
-  unfolding identification
-  identification-done {n} e =
-      let x = told-done (readAt (literal 2 identifierBytes tt) s start) (sym (identified ∙ e)) in
-      bind-done _ _ s start (x .1) ∙ literal-told 3 versionBytes tt s n
-
-  pub identification-failed : {f : Failure} → matched s start identifierBytes 2 ≡ Failed f → told (readAt identification s start) ≡ Failed f
-  unfolding identification
-  identification-failed e = bind-failed _ _ s start (sym (identified ∙ e))
-
-  -- past the end there is none
-  pub identification-past : length s ≤ start → told (readAt identification s start) ≡ Failed Short
-  unfolding identification literal bind told
-  identification-past h = ap told (at-short _ _ s start h)
-
-  -- ---- What follows them
-
   pub front-done : {n : ℕ} → told (readAt identification s start) ≡ Done n → readAt front s start ≡ readAt channelled s n
   unfolding front
   front-done e = at-bind-ok identification _ s start (told-done (readAt identification s start) (sym e) .1)

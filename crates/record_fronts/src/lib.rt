@@ -4,44 +4,10 @@ use descriptions::Measured;
 use formats::Failure;
 use formats::Outcome;
 ghost use mathlib.Core.Path.{_≡_};
-ghost use Prim.Native.Nat.{_+_, _*_, _≤_};
-ghost use lib.ListN.{length};
+ghost use Prim.Native.Nat.{_+_, _*_};
 ghost use Rattle.formats.specs.Reader.{readAt};
-ghost use Rattle.formats.specs.Told.{told, matched};
-ghost use Rattle.record_fronts.specs.Front.{identification, opened, front as frontReader};
+ghost use Rattle.record_fronts.specs.Front.{opened, front as frontReader};
 ghost use Rattle.record_fronts.specs.Fronted.{notOpened, openedAs, unfronted, fronted, frontBehind};
-
-// Four certain bytes from a place on, or the refusal of the first that is another.
-fn bytes_at(s: &[u8], start: usize, expected: [u8; 4], fault: u8) -> Outcome
-    requires { ⌜ start ≤ length (now s) ⌝ }
-    ensures { λ r. ⌜ r ≡ matched (now (s .entry)) start expected fault ⌝ }
-{
-    let mut i: usize = 0;
-    while i < 4 {
-        if s.len() - start <= i {
-            return Outcome::Failed(Failure::Short);
-        }
-        if s[start + i] != expected[i] {
-            return Outcome::Failed(Failure::Bad(fault, start + i));
-        }
-        i += 1;
-    }
-    Outcome::Done(start + 4)
-}
-
-// Where the format identifier and the version end that stand from a place on (7.3.2, 7.3.3).
-pub fn identification_end(bytes: &[u8], start: usize) -> Outcome
-    ensures { λ r. ⌜ r ≡ told (readAt identification (now (bytes .entry)) start) ⌝ }
-{
-    if bytes.len() < start {
-        return Outcome::Failed(Failure::Short);
-    }
-    let identified = bytes_at(bytes, start, records::IDENTIFIER, 2);
-    let Outcome::Done(at) = identified else {
-        return identified;
-    };
-    bytes_at(bytes, at, records::VERSION, 3)
-}
 
 // How reading what opens a body ended, whether it announces extended data, and how many points it counts.
 struct Opened {
@@ -155,7 +121,7 @@ pub fn front_behind(bytes: &[u8], measured: Measured) -> Fronted
 pub fn front_at(bytes: &[u8], start: usize) -> Fronted
     ensures { λ r. ⌜ r ≡ fronted (readAt frontReader (now (bytes .entry)) start) ⌝ }
 {
-    let identified = identification_end(bytes, start);
+    let identified = identifications::end(bytes, start);
     let Outcome::Done(at) = identified else {
         return no_front(identified);
     };

@@ -11,9 +11,9 @@ use lib.IntN.{ℤ}
 use lib.ListN.{length, take, drop, length-drop}
 use lib.Seq.{length-take-le}
 use Rattle.formats.specs.Bytes.{impossible}
-use Rattle.formats.specs.Reader.{Reader, Answer, ok, short, bad, done, andThen, readAt, bind, times, free}
+use Rattle.formats.specs.Reader.{Reader, Answer, ok, short, bad, done, andThen, readAt, run, bind, times, free}
 use Rattle.formats.specs.Law.{whole}
-use Rattle.formats.specs.Compose.{at-bind, at-done, at-times, at-within, at-bind-ok, at-free, at-free-short}
+use Rattle.formats.specs.Compose.{at-start, at-bind, at-done, at-times, at-within, at-bind-ok, at-free, at-free-short}
 use Rattle.formats.specs.declared.Failure.the-variants.{Short}
 use Rattle.formats.specs.Number.{number, value, at-number, at-number-short}
 use Rattle.formats.specs.Fixed.{parts}
@@ -186,3 +186,15 @@ module _ (s : List ℕ) (start : ℕ) (inside : start ≤ length s) (l : Layout)
   -- with no points
   pub failed-count : {f : Failure} → l .outcome ≡ Failed f → l .count ≡ 0
   failed-count o = nothing-of (readAt fullRecord s start) (of-layout (readAt fullRecord s start) refl) o
+
+-- ---- The record that some bytes begin with
+
+module _ (s : List ℕ) (l : Layout) (e : l ≡ layoutAt s 0) where
+  pub record-read : {end : ℕ} → l .outcome ≡ Done end → (r : Record) × (run fullRecord s ≡ ok r end) × Lying s (frontIn (readAt front s 0)) l r end
+  record-read o = let x = record-lies s 0 (omega arith) l e o in (x .0, sym (at-start fullRecord s) ∙ x .1, x .2)
+
+  pub failed-read : {f : Failure} → l .outcome ≡ Failed f → run fullRecord s ≡ failed f
+  failed-read o = sym (at-start fullRecord s) ∙ failed-lies s 0 (omega arith) l e o
+
+  pub none-counted : {f : Failure} → l .outcome ≡ Failed f → l .count ≡ 0
+  none-counted o = failed-count s 0 (omega arith) l e o

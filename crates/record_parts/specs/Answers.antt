@@ -1,21 +1,12 @@
 -- Each public function has one answer: whatever meets its promise is the same. A part of a slice is the same bytes in the same memory.
-use mathlib.Core.Path.{_≡_}
 use mathlib.Core.List.{List}
 use Prim.Native.Nat.{ℕ}
 use lib.ListN.{length}
 use denote.Ref.{RefT, now}
 use Rattle.formats.specs.Reader.{run}
-use Rattle.formats.specs.OneAnswer.{OneAnswer, named}
 use Rattle.formats.specs.Part.{Part, SamePart, one-part}
 use Rattle.records.specs.Record.{fullRecord}
-use Rattle.record_parts.specs.Parts.{extendedPlace, extendedSize, restPlace, restSize, pointedAt, placesIn}
-
-module _ (s : List ℕ) where
-  pub one-judged-point : (index : ℕ) → OneAnswer (λ r. r ≡ pointedAt index (run fullRecord s))
-  one-judged-point index = named
-
-  pub one-point : (index : ℕ) → OneAnswer (λ r. r ≡ placesIn index (run fullRecord s))
-  one-point index = named
+use Rattle.record_parts.specs.Parts.{extendedPlace, extendedSize, restPlace, restSize}
 
 module _ (s r q : RefT (List ℕ)) where
   pub one-extended : Part s r (extendedPlace (run fullRecord (now s))) (extendedSize (run fullRecord (now s)))

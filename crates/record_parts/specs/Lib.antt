@@ -1,3 +1,3 @@
--- `Parts`: where the parts of a record lie, and what its points say. `Answers`: no public function has a second answer.
+-- `Parts`: where the extended data of a record lie, and what follows it. `Answers`: no public function has a second answer.
 pub mod Parts
 pub mod Answers

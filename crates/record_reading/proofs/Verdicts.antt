@@ -16,7 +16,8 @@ use Rattle.refusals.specs.declared.Refusal.{Refusal}
 use Rattle.descriptions.specs.Description.{description}
 use Rattle.descriptions.specs.Read.{nothing, described}
 use Rattle.records.specs.Record.{Record, fullRecord}
-use Rattle.record_fronts.specs.Front.{identification, front, body, in-two}
+use Rattle.identifications.specs.Identification.{identification}
+use Rattle.record_fronts.specs.Front.{front, body, in-two}
 use Rattle.record_fronts.specs.FrontLaws.{front-failed}
 use Rattle.record_layouts.specs.Layout.{layoutAt}
 use Rattle.record_reading.specs.DescribedLaws.{record-described}

@@ -9,7 +9,7 @@ use Rattle.formats.specs.Told.{told}
 use Rattle.formats.specs.declared.Outcome.the-variants.{Done}
 use Rattle.descriptions.specs.Description.{description}
 use Rattle.records.specs.Record.{Record, identifierBytes, versionBytes, fullRecord}
-use Rattle.record_fronts.specs.Front.{identification}
+use Rattle.identifications.specs.Identification.{identification}
 
 -- ---- A first part and what follows it
 

@@ -13,7 +13,7 @@ ghost use Rattle.formats.specs.Reader.{readAt, run};
 ghost use Rattle.formats.specs.Told.{told};
 ghost use Rattle.formats.specs.declared.Outcome.the-variants.{Done};
 ghost use Rattle.records.specs.Record.{fullRecord};
-ghost use Rattle.record_fronts.specs.Front.{identification};
+ghost use Rattle.identifications.specs.Identification.{identification};
 ghost use Rattle.record_layouts.specs.Layout.{layoutAt};
 ghost use Rattle.record_reading.specs.Verdict.{verdictFrom, judged, unjudged, judgedWhole};
 
@@ -78,7 +78,7 @@ fn unjudged(verdict: Verdict) -> Judged
 pub fn judge(bytes: &[u8]) -> Judged
     ensures { λ r. ⌜ r ≡ judged (run fullRecord (now (bytes .entry))) ⌝ }
 {
-    let identified = record_fronts::identification_end(bytes, 0);
+    let identified = identifications::end(bytes, 0);
     match identified {
         Outcome::Done(at) => judge_behind(bytes, at),
         Outcome::Failed(failure) => unjudged(Verdict::Refused(refusals::of(failure))),

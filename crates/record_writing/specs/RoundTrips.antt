@@ -76,7 +76,7 @@ module _ (d : Description) (count : ℕ) (values : List ℤ) (wanted : Bool) (ex
       }
   by-room false h p e = impossible (cc (ap (λ x. x .answer) e))
 
-  by-judgement : {n : ℕ} {bytes : List ℕ} (j : Judgement) → judgementOf d count values wanted extended ≡ j → putWhere asked out j ≡ writing (written.Record n) bytes → Wrote n bytes
+  by-judgement : {n : ℕ} {bytes : List ℕ} (j : Judgement) → judgementOf d count values wanted extended ≡ j → putWhere (encode asked) out j ≡ writing (written.Record n) bytes → Wrote n bytes
   unfolding putWhere
   by-judgement Passed q e = by-room (leb (length (encode asked)) (length out)) refl (passes d count values wanted extended q) e
   by-judgement (Refused refusal) q e = impossible (cc (ap (λ x. x .answer) e))
@@ -121,9 +121,11 @@ module _ (s : List ℕ) (bytes : Bytes s) (r : Record) (n : ℕ) (e : run fullRe
       passing (r .description) (length (r .points)) values (present (r .extended)) extra
       (record {
         described = valid-passed 2 (r .description) (valid .description) .0;
-        counted = valid .count;
-        fitting = row-fits 2 (stored (r .description)) (r .points) (valid .points);
-        small = extended-small (r .extended) (valid .extended);
+        numbered = record {
+          counted = valid .count;
+          fitting = row-fits 2 (stored (r .description)) (r .points) (valid .points);
+          small = extended-small (r .extended) (valid .extended);
+        };
       })
 
   -- and where there is room, its bytes are written as they stood

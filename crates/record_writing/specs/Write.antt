@@ -1,7 +1,7 @@
 -- Writing a full record: what keeps one from being written, stage by stage, and what becomes of the bytes that a writer is lent.
 use mathlib.Core.Path.{_≡_}
 use mathlib.Core.Bool.{Bool, cond, not, _&&_}
-use mathlib.Core.List.{List, [], _∷_, _++_}
+use mathlib.Core.List.{List, [], _∷_, _++_, flatMap}
 use mathlib.Core.Option.{none, some}
 use Prim.Native.Nat.{ℕ, _<_}
 use lib.Dec.{T, ltb, leb}
@@ -17,10 +17,11 @@ use Rattle.refusals.specs.declared.Judgement.{Judgement}
 use Rattle.refusals.specs.declared.Judgement.the-variants as judgement
 use Rattle.channels.specs.declared.Description.{Description}
 use Rattle.description_judging.specs.Judging as described
+use Rattle.points.specs.Points.{encodePoint}
 use Rattle.values.specs.Values as values
 use Rattle.values.specs.Values.{size, pointsOf}
 use Rattle.values.specs.declared.Order.the-variants.{Point}
-use Rattle.records.specs.Record.{Record, identifierBytes, versionBytes, stored, encode}
+use Rattle.records.specs.Record.{Record, identifierBytes, versionBytes, stored, encodeExtended, encode}
 use Rattle.record_writing.specs.declared.Written.{Written}
 use Rattle.record_writing.specs.declared.Written.the-variants as written
 
@@ -37,22 +38,21 @@ abbrev pub extendedStage : (wanted : Bool) (extended : List ℕ) → Judgement
 extendedStage wanted extended = require (not (wanted && ltb 65535 (length extended))) ExtendedSize
 
 -- the stages behind the description's, in their order: the count, the amount of numbers and the numbers, the extended data
-unfoldable pub numbersJudged : Description → (count : ℕ) (numbers : List ℤ) (wanted : Bool) (extended : List ℕ) → Judgement
-numbersJudged d count numbers wanted extended =
-    stages (countStage count ∷ values.judgementOf 2 (stored d) Point count numbers ∷ extendedStage wanted extended ∷ [])
+unfoldable pub numbersJudged : (stored : List Bool) (count : ℕ) (numbers : List ℤ) (wanted : Bool) (extended : List ℕ) → Judgement
+numbersJudged stored count numbers wanted extended =
+    stages (countStage count ∷ values.judgementOf 2 stored Point count numbers ∷ extendedStage wanted extended ∷ [])
 
 -- the description's own stages come first
 unfoldable pub judgementOf : Description → (count : ℕ) (numbers : List ℤ) (wanted : Bool) (extended : List ℕ) → Judgement
-judgementOf d count numbers wanted extended = orElse (described.judgementOf 2 d) (numbersJudged d count numbers wanted extended)
+judgementOf d count numbers wanted extended = orElse (described.judgementOf 2 d) (numbersJudged (stored d) count numbers wanted extended)
 
--- a record that passes is put at the start where there is room for it; else the bytes stay as they were
-unfoldable pub putWhere : Record → (out : List ℕ) → Judgement → Writing Written
-putWhere r out judgement.Passed =
-    cond (leb (length (encode r)) (length out)) (writing (written.Record (length (encode r))) (puts out 0 (encode r))) (writing (written.Refused Room) out)
-putWhere r out (judgement.Refused refusal) = writing (written.Refused refusal) out
+-- the bytes of a record that passes are put at the start where there is room for them; else the output stays as it was
+unfoldable pub putWhere : (bytes out : List ℕ) → Judgement → Writing Written
+putWhere bytes out judgement.Passed = cond (leb (length bytes) (length out)) (writing (written.Record (length bytes)) (puts out 0 bytes)) (writing (written.Refused Room) out)
+putWhere bytes out (judgement.Refused refusal) = writing (written.Refused refusal) out
 
 unfoldable pub writeOf : Description → (count : ℕ) (numbers : List ℤ) (wanted : Bool) (extended : List ℕ) (out : List ℕ) → Writing Written
-writeOf d count numbers wanted extended out = putWhere (recordOf d count numbers wanted extended) out (judgementOf d count numbers wanted extended)
+writeOf d count numbers wanted extended out = putWhere (encode (recordOf d count numbers wanted extended)) out (judgementOf d count numbers wanted extended)
 
 -- ---- The parts, as they are put one behind the other
 
@@ -62,9 +62,22 @@ openingBytes wanted count = 0x00 ∷ cond wanted 0x80 0x00 ∷ digits 3 count
 unfoldable pub frontBytes : (described : List ℕ) (wanted : Bool) (count : ℕ) → List ℕ
 frontBytes described wanted count = identifierBytes ++ versionBytes ++ described ++ openingBytes wanted count
 
--- what holds of a record that passed every stage but the room
+unfoldable pub recordBytes : (described : List ℕ) (stored : List Bool) (count : ℕ) (numbers : List ℤ) (wanted : Bool) (extended : List ℕ) → List ℕ
+recordBytes described stored count numbers wanted extended =
+    frontBytes described wanted count
+    ++ (flatMap (encodePoint 2 stored) (pointsOf Point count (size stored) numbers) ++ encodeExtended (cond wanted (some extended) none))
+
+-- what becomes of a record whose description was put aside: it is known by its bytes and by the channels that are stored
+unfoldable pub writeDescribed : (described : List ℕ) (stored : List Bool) (count : ℕ) (numbers : List ℤ) (wanted : Bool) (extended : List ℕ) (out : List ℕ) → Writing Written
+writeDescribed described stored count numbers wanted extended out =
+    putWhere (recordBytes described stored count numbers wanted extended) out (numbersJudged stored count numbers wanted extended)
+
+-- what holds of a record that passed the stages behind the description's, and of one that passed every stage but the room
+pub record NumbersPass (stored : List Bool) (count : ℕ) (numbers : List ℤ) (wanted : Bool) (extended : List ℕ) : Type 0 where
+  pub counted : count < 16777216
+  pub fitting : values.judgementOf 2 stored Point count numbers ≡ judgement.Passed
+  pub small : T wanted → length extended < 65536
+
 pub record Passes (d : Description) (count : ℕ) (numbers : List ℤ) (wanted : Bool) (extended : List ℕ) : Type 0 where
   pub described : described.judgementOf 2 d ≡ judgement.Passed
-  pub counted : count < 16777216
-  pub fitting : values.judgementOf 2 (stored d) Point count numbers ≡ judgement.Passed
-  pub small : T wanted → length extended < 65536
+  pub numbered : NumbersPass (stored d) count numbers wanted extended

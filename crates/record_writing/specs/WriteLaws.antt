@@ -1,6 +1,6 @@
 -- What passes every stage is a valid record, and its bytes are its parts one behind the other.
-use mathlib.Core.Path.{_≡_, refl, sym, ap, _∙_}
-use mathlib.Core.Bool.{Bool, true, false, cond, not, _&&_}
+use mathlib.Core.Path.{_≡_, refl, sym}
+use mathlib.Core.Bool.{Bool, true, false, cond, _&&_}
 use mathlib.Core.List.{List, [], _∷_, _++_, flatMap, append-assoc}
 use mathlib.Core.Option.{Option, none, some}
 use Prim.Native.Nat.{ℕ, _+_, _*_, _<_}
@@ -25,10 +25,10 @@ use Rattle.values.specs.declared.Order.the-variants.{Point}
 use Rattle.descriptions.specs.Description.{encodeDescription}
 use Rattle.description_judging.specs.Judging as described
 use Rattle.description_judging.specs.JudgingLaws.{passed-valid}
-use Rattle.records.specs.Record.{Record, identifierBytes, versionBytes, stored, openingByte, encodeExtended, encode, ValidExtended, Valid}
-use Rattle.record_writing.specs.Write.{recordOf, countStage, extendedStage, numbersJudged, judgementOf, openingBytes, frontBytes, Passes}
+use Rattle.records.specs.Record.{identifierBytes, versionBytes, stored, openingByte, encodeExtended, encode, ValidExtended, Valid}
+use Rattle.record_writing.specs.Write.{recordOf, countStage, extendedStage, numbersJudged, judgementOf, writeOf, openingBytes, frontBytes, recordBytes, writeDescribed, NumbersPass, Passes}
 
--- ---- The record
+-- ---- Small facts
 
 regroup : (i v d z o n r x : List ℕ) → (i ++ v ++ d ++ z) ++ o ++ n ++ r ++ x ≡ (i ++ v ++ d ++ (z ++ (o ++ n))) ++ (r ++ x)
 regroup i v d z o n r x = simp append-assoc
@@ -47,6 +47,55 @@ unfolding openingByte
 opened true extended = refl
 opened false extended = refl
 
+-- ---- By the channels that are stored
+
+module _ (stored : List Bool) (count : ℕ) (numbers : List ℤ) (wanted : Bool) (extended : List ℕ) where
+  -- how long the bytes are
+  pub bytes-length : (described : List ℕ) → values.judgementOf 2 stored Point count numbers ≡ Passed
+      → length described + count * width 2 stored + length (encodeExtended (cond wanted (some extended) none)) + 13 ≡ length (recordBytes described stored count numbers wanted extended)
+  unfolding recordBytes frontBytes openingBytes
+  bytes-length described e = sym (simp length-append (omega (arith, fits-length 2 stored Point count numbers e, length-digits 3 count)))
+
+  not-long : (wanted : Bool) → (wanted && ltb 65535 (length extended)) ≡ false → T wanted → length extended < 65536
+  not-long true e h = omega (arith, ltb-false 65535 (length extended) e)
+  not-long false e h = absurd h
+
+  -- what passes the stages behind the description's
+  pub numbers-pass : numbersJudged stored count numbers wanted extended ≡ Passed → NumbersPass stored count numbers wanted extended
+  unfolding numbersJudged
+  numbers-pass e =
+      let y = stages-passed (countStage count ∷ values.judgementOf 2 stored Point count numbers ∷ extendedStage wanted extended ∷ []) e in
+      record {
+        counted = omega (arith, ltb-false 16777215 count (not-true _ (require-passed _ _ (y .0))));
+        fitting = y .1 .0;
+        small = not-long wanted (not-true _ (require-passed _ _ (y .1 .1 .0)));
+      }
+
+  -- ---- Each of them, by its test
+
+  module _ (counted : count < 16777216) where
+    within : ltb 16777215 count ≡ false
+    within = le-ltb 16777215 count (omega arith)
+
+    pub at-values : {refusal : Refusal} → values.judgementOf 2 stored Point count numbers ≡ Refused refusal → numbersJudged stored count numbers wanted extended ≡ Refused refusal
+    unfolding numbersJudged orElse stages require
+    at-values h = rw (within, h)
+
+    module _ (fit : values.judgementOf 2 stored Point count numbers ≡ Passed) where
+      pub at-extended : wanted ≡ true → 65535 < length extended → numbersJudged stored count numbers wanted extended ≡ Refused ExtendedSize
+      unfolding numbersJudged orElse stages require
+      at-extended e h = rw (within, fit, e, lt-ltb 65535 (length extended) h)
+
+      pub at-last : (T wanted → length extended < 65536) → numbersJudged stored count numbers wanted extended ≡ Passed
+      unfolding numbersJudged orElse stages require
+      at-last h = rw (within, fit, fits-length-of wanted extended h)
+
+  pub at-count : 16777215 < count → numbersJudged stored count numbers wanted extended ≡ Refused (OutOfRange quantity.Count)
+  unfolding numbersJudged orElse stages require
+  at-count h = rw (lt-ltb 16777215 count h)
+
+-- ---- The record
+
 module _ (d : Description) (count : ℕ) (numbers : List ℤ) (wanted : Bool) (extended : List ℕ) where
   abbrev extra : Option (List ℕ)
   extra = cond wanted (some extended) none
@@ -55,73 +104,34 @@ module _ (d : Description) (count : ℕ) (numbers : List ℤ) (wanted : Bool) (e
   row = flatMap (encodePoint 2 (stored d)) (pointsOf Point count (size (stored d)) numbers)
 
   -- its bytes, part by part
-  pub in-parts : encode (recordOf d count numbers wanted extended) ≡ frontBytes (encodeDescription 2 d) wanted count ++ (row ++ encodeExtended extra)
-  unfolding encode recordOf frontBytes openingBytes
+  pub in-parts : encode (recordOf d count numbers wanted extended) ≡ recordBytes (encodeDescription 2 d) (stored d) count numbers wanted extended
+  unfolding encode recordOf recordBytes frontBytes openingBytes
   in-parts = rw (points-many Point count (size (stored d)) numbers, opened wanted extended)
       (regroup identifierBytes versionBytes (encodeDescription 2 d) (0x00 ∷ []) (cond wanted 0x80 0x00 ∷ []) (digits 3 count) row (encodeExtended extra))
 
-  -- its length
-  pub record-length : values.judgementOf 2 (stored d) Point count numbers ≡ Passed
-      → length (encodeDescription 2 d) + count * width 2 (stored d) + length (encodeExtended extra) + 13 ≡ length (encode (recordOf d count numbers wanted extended))
-  unfolding frontBytes openingBytes
-  record-length e =
-      sym
-      (ap length in-parts
-      ∙ simp length-append (omega (arith, fits-length 2 (stored d) Point count numbers e, length-digits 3 count)))
+  -- what becomes of it, once its description was put aside
+  pub described-written : (out : List ℕ) {bytes : List ℕ} {flags : List Bool} → described.judgementOf 2 d ≡ Passed → bytes ≡ encodeDescription 2 d → flags ≡ stored d
+      → writeDescribed bytes flags count numbers wanted extended out ≡ writeOf d count numbers wanted extended out
+  unfolding writeOf writeDescribed judgementOf orElse
+  described-written out e b f = rw (b, f) (sym (rw (e, in-parts)))
 
-  -- and it is valid
+  -- it is valid
   pub passes-valid : Passes d count numbers wanted extended → length (d .channels) ≡ 16 → Bytes extended → Valid (recordOf d count numbers wanted extended)
   unfolding recordOf
   passes-valid p h g = record {
     description = passed-valid 2 d (p .described) h;
-    count = omega (arith, points-many Point count (size (stored d)) numbers, p .counted);
-    points = fits-valid 2 (stored d) Point count numbers (p .fitting) .1;
-    extended = extended-valid wanted extended (p .small) g;
+    count = omega (arith, points-many Point count (size (stored d)) numbers, p .numbered .counted);
+    points = fits-valid 2 (stored d) Point count numbers (p .numbered .fitting) .1;
+    extended = extended-valid wanted extended (p .numbered .small) g;
   }
 
-  -- ---- The stages
-
-  not-long : (wanted : Bool) → (wanted && ltb 65535 (length extended)) ≡ false → T wanted → length extended < 65536
-  not-long true e h = omega (arith, ltb-false 65535 (length extended) e)
-  not-long false e h = absurd h
-
-  -- what passes them all
+  -- what passes every stage, and the other way round
   pub passes : judgementOf d count numbers wanted extended ≡ Passed → Passes d count numbers wanted extended
-  unfolding judgementOf numbersJudged
+  unfolding judgementOf
   passes e =
-      let x = or-else-passed (described.judgementOf 2 d) (numbersJudged d count numbers wanted extended) e in
-      let y = stages-passed (countStage count ∷ values.judgementOf 2 (stored d) Point count numbers ∷ extendedStage wanted extended ∷ []) (x .1) in
-      record {
-        described = x .0;
-        counted = omega (arith, ltb-false 16777215 count (not-true _ (require-passed _ _ (y .0))));
-        fitting = y .1 .0;
-        small = not-long wanted (not-true _ (require-passed _ _ (y .1 .1 .0)));
-      }
+      let x = or-else-passed (described.judgementOf 2 d) (numbersJudged (stored d) count numbers wanted extended) e in
+      record { described = x .0; numbered = numbers-pass (stored d) count numbers wanted extended (x .1) }
 
-  -- and the other way round
   pub passing : Passes d count numbers wanted extended → judgementOf d count numbers wanted extended ≡ Passed
-  unfolding judgementOf numbersJudged orElse stages require
-  passing p = rw (p .described, le-ltb 16777215 count (omega (arith, p .counted)), p .fitting, fits-length-of wanted extended (p .small))
-
-  -- ---- Each stage behind the description's, by its test
-
-  module _ (counted : count < 16777216) where
-    within : ltb 16777215 count ≡ false
-    within = le-ltb 16777215 count (omega arith)
-
-    pub at-values : {refusal : Refusal} → values.judgementOf 2 (stored d) Point count numbers ≡ Refused refusal → numbersJudged d count numbers wanted extended ≡ Refused refusal
-    unfolding numbersJudged orElse stages require
-    at-values h = rw (within, h)
-
-    module _ (fit : values.judgementOf 2 (stored d) Point count numbers ≡ Passed) where
-      pub at-extended : wanted ≡ true → 65535 < length extended → numbersJudged d count numbers wanted extended ≡ Refused ExtendedSize
-      unfolding numbersJudged orElse stages require
-      at-extended e h = rw (within, fit, e, lt-ltb 65535 (length extended) h)
-
-      pub at-last : (T wanted → length extended < 65536) → numbersJudged d count numbers wanted extended ≡ Passed
-      unfolding numbersJudged orElse stages require
-      at-last h = rw (within, fit, fits-length-of wanted extended h)
-
-  pub at-count : 16777215 < count → numbersJudged d count numbers wanted extended ≡ Refused (OutOfRange quantity.Count)
-  unfolding numbersJudged orElse stages require
-  at-count h = rw (lt-ltb 16777215 count h)
+  unfolding judgementOf orElse
+  passing p = rw (p .described) (at-last (stored d) count numbers wanted extended (p .numbered .counted) (p .numbered .fitting) (p .numbered .small))

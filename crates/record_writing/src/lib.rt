@@ -12,14 +12,13 @@ ghost use lib.Dec.{T};
 ghost use mathlib.Core.List.{map};
 ghost use Prim.Native.Nat.{_+_, _*_, _≤_, _<_};
 ghost use lib.ListN.{length};
-ghost use Rattle.formats.specs.Number.{digits};
 ghost use Rattle.formats.specs.Laid.{Room, Laid};
 ghost use Rattle.formats.specs.Lent.{writing};
-ghost use Rattle.descriptions.specs.Description.{description, isStored, encodeDescription};
+ghost use Rattle.channels.specs.Descriptors.{isStored};
+ghost use Rattle.descriptions.specs.Description.{description};
 ghost use Rattle.refusals.specs.declared.Judgement.the-variants.{Passed};
-ghost use Rattle.description_judging.specs.Judging.{judgementOf};
-ghost use Rattle.records.specs.Record.{encodeExtended, encode};
-ghost use Rattle.record_writing.specs.Write.{openingBytes, frontBytes, recordOf, numbersJudged, Passes, writeOf};
+ghost use Rattle.records.specs.Record.{encodeExtended};
+ghost use Rattle.record_writing.specs.Write.{openingBytes, frontBytes, recordBytes, numbersJudged, NumbersPass, writeDescribed, writeOf};
 
 // Which channels a sample point holds a number of.
 fn stored_channels(d: Description) -> [bool; 16]
@@ -29,7 +28,7 @@ fn stored_channels(d: Description) -> [bool; 16]
     let mut i: usize = 0;
     while i < 16 {
         let c = d.channels[i];
-        stored[i] = descriptions::is_stored(c);
+        stored[i] = channels::is_stored(c);
         i += 1;
     }
     stored
@@ -93,20 +92,19 @@ fn record_size(described: usize, width: usize, count: usize, wanted: bool, exten
 
 // The stages behind the description's: the count, the amount of values and the values, the extended data.
 fn judge_values(
-    d: Description,
+    stored: [bool; 16],
     count: usize,
     values: &[i32],
     wanted: bool,
     extended: &[u8],
 ) -> Judgement
-    ensures { λ r. ⌜ r ≡ numbersJudged d count (now (values .entry)) wanted (now (extended .entry)) ⌝ }
+    ensures { λ r. ⌜ r ≡ numbersJudged stored count (now (values .entry)) wanted (now (extended .entry)) ⌝ }
 {
     if 16777215 < count {
         return Judgement::Refused(Refusal::OutOfRange {
             quantity: Quantity::Count,
         });
     }
-    let stored = stored_channels(d);
     let judged = values::judge(values, count, Format::Full, stored, Order::Point);
     if let Judgement::Refused(_) = judged {
         return judged;
@@ -122,45 +120,45 @@ fn judge_values(
 // A record that passed every stage is put at the start of the output.
 fn put_record(
     out: &mut [u8],
-    d: Description,
     described: &[u8],
+    stored: [bool; 16],
     count: usize,
     values: &[i32],
     wanted: bool,
     extended: &[u8],
 ) -> usize
-    requires { ⌜ (now described ≡ encodeDescription 2 d) × Passes d count (now values) wanted (now extended) × Room (now out) 0 (encode (recordOf d count (now values) wanted (now extended))) ⌝ }
-    ensures { λ r. ⌜ Laid (now (out .entry)) 0 (encode (recordOf d count (now (values .entry)) wanted (now (extended .entry)))) (now (out .exit)) r ⌝ }
+    requires { ⌜ NumbersPass stored count (now values) wanted (now extended) × Room (now out) 0 (recordBytes (now described) stored count (now values) wanted (now extended)) ⌝ }
+    ensures { λ r. ⌜ Laid (now (out .entry)) 0 (recordBytes (now (described .entry)) stored count (now (values .entry)) wanted (now (extended .entry))) (now (out .exit)) r ⌝ }
 {
     let at = put_front(out, described, wanted, count);
-    let stored = stored_channels(d);
     let at = values::put(out, at, values, count, Format::Full, stored, Order::Point);
     put_extension(out, at, wanted, extended)
 }
 
 // The stages behind the description's, and the room; then the record is put.
+// Of the description it is enough to know its bytes, and which channels are stored.
 fn write_described(
-    d: Description,
     described: &[u8],
+    stored: [bool; 16],
     count: usize,
     values: &[i32],
     wanted: bool,
     extended: &[u8],
     out: &mut [u8],
 ) -> Written
-    requires { ⌜ (judgementOf 2 d ≡ Passed) × (now described ≡ encodeDescription 2 d) ⌝ }
-    ensures { λ r. ⌜ writing r (now (out .exit)) ≡ writeOf d count (now (values .entry)) wanted (now (extended .entry)) (now (out .entry)) ⌝ }
+    requires { ⌜ length (now described) ≤ 178 ⌝ }
+    ensures { λ r. ⌜ writing r (now (out .exit)) ≡ writeDescribed (now (described .entry)) stored count (now (values .entry)) wanted (now (extended .entry)) (now (out .entry)) ⌝ }
 {
-    let judged = judge_values(d, count, values, wanted, extended);
+    let judged = judge_values(stored, count, values, wanted, extended);
     if let Judgement::Refused(refusal) = judged {
         return Written::Refused(refusal);
     }
-    let width = points::width(Format::Full, stored_channels(d));
+    let width = points::width(Format::Full, stored);
     let length = record_size(described.len(), width, count, wanted, extended);
     if out.len() < length {
         return Written::Refused(Refusal::Room);
     }
-    put_record(out, d, described, count, values, wanted, extended);
+    put_record(out, described, stored, count, values, wanted, extended);
     Written::Record { length: length }
 }
 
@@ -181,7 +179,8 @@ pub fn write(
     match description_writing::put(&mut room, 0, description, Format::Full) {
         description_writing::Written::Done(end) => {
             let described = &room[0..end];
-            write_described(description, described, count, values, wanted, extended, out)
+            let stored = stored_channels(description);
+            write_described(described, stored, count, values, wanted, extended, out)
         }
         description_writing::Written::Refused(refusal) => Written::Refused(refusal),
     }

@@ -7,7 +7,7 @@ use lib.ListN.{length, length-append, length-map}
 use Rattle.channels.specs.declared.Description.{Description}
 use Rattle.points.specs.Points.{width, encodePoint}
 use Rattle.points.specs.Laws.{full-width, points-length}
-use Rattle.descriptions.specs.Description.{isStored}
+use Rattle.channels.specs.Descriptors.{isStored}
 use Rattle.descriptions.specs.SizeLaws.{description-size}
 use Rattle.records.specs.Record.{Record, header, stored, Valid}
 

@@ -4,7 +4,7 @@ use mathlib.Core.Bool.{false}
 use Prim.Native.Nat.{ℕ, _<_}
 use lib.ListN.{getD}
 use Rattle.channels.specs.declared.Description.{Description}
-use Rattle.descriptions.specs.Description.{absent}
+use Rattle.channels.specs.Descriptors.{absent}
 
 -- no channel is included
 abbrev pub Silent : Description → Type 0

@@ -12,7 +12,8 @@ use Rattle.channels.specs.Channel.{signedOf}
 use Rattle.channels.specs.Stored.{offset, valueOf}
 use Rattle.channels.specs.declared.Descriptor.{Descriptor}
 use Rattle.channels.specs.declared.Description.{Description}
-use Rattle.descriptions.specs.Description.{noAttribute, absent, attribute, descriptor, includes, channelOf, description}
+use Rattle.channels.specs.Descriptors.{noAttribute, absent}
+use Rattle.descriptions.specs.Description.{attribute, descriptor, includes, channelOf, description}
 use Rattle.descriptions.specs.Read.{nothing}
 use Rattle.refusals.specs.declared.Refusal.the-variants.{Short, Tag, Length, Maximum, XOrY, ReservedBit, LeftOver}
 use Rattle.refusals.specs.declared.Judgement.{Judgement}

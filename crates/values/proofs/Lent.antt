@@ -21,7 +21,7 @@ use Rattle.refusals.specs.declared.Judgement.{Judgement}
 use Rattle.refusals.specs.declared.Judgement.the-variants.{Passed, Refused}
 use Rattle.channels.specs.Channel.{S, signs, signedOf}
 use Rattle.channels.specs.Stored.{fits, storedOf, storedIf}
-use Rattle.channels.specs.Switch.{isState, byteOf, byteIf}
+use Rattle.tip_switch.specs.Switch.{isState, byteOf, byteIf}
 use Rattle.channels.specs.declared.Stored.the-variants.{Number, Outside}
 use Rattle.points.specs.Points.{storedFrom, channels, fitsSample, width}
 use Rattle.values.specs.Values.{size, step, stride, numbersFrom, pointsFrom, pointsOf, judgePoint, judgeFrom, judgementOf, storedSample, sampleBytes, bytesOf, putOf}

@@ -23,7 +23,7 @@ use Rattle.refusals.specs.declared.Judgement.{Judgement}
 use Rattle.refusals.specs.declared.Judgement.the-variants.{Passed, Refused}
 use Rattle.channels.specs.Channel.{S, signedOf}
 use Rattle.channels.specs.Stored.{storedOf, fits, storedIf}
-use Rattle.channels.specs.Switch.{byteOf, isState, byteIf, state-byte}
+use Rattle.tip_switch.specs.Switch.{byteOf, isState, byteIf, state-byte}
 use Rattle.points.specs.Points.{channels, sampleSize, widths, width, encodeSample, encodePoint, fitsSample, ValidPoint}
 use Rattle.values.specs.Values.{size, step, stride, index, numbersFrom, pointsFrom, pointsOf, judgePoint, judgeFrom, judgementOf, storedSample, numberIn, sampleBytes, bytesOf, putOf}
 use Rattle.points.specs.Laws.{points-length}

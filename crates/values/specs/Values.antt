@@ -16,7 +16,7 @@ use Rattle.refusals.specs.declared.Judgement.{Judgement}
 use Rattle.refusals.specs.declared.Judgement.the-variants.{Passed}
 use Rattle.channels.specs.Channel.{S, signedOf}
 use Rattle.channels.specs.Stored.{storedIf}
-use Rattle.channels.specs.Switch.{byteIf}
+use Rattle.tip_switch.specs.Switch.{byteIf}
 use Rattle.channels.specs.declared.Stored.{Stored}
 use Rattle.channels.specs.declared.Stored.the-variants.{Number, Outside}
 use Rattle.points.specs.Points.{channels, sampleSize, width, fitsSample}

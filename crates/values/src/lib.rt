@@ -74,7 +74,7 @@ fn stored_sample(format: Format, channel: usize, value: i32, signs: &[bool; 16])
     ensures { λ r. ⌜ r ≡ storedSample (widthOf format) channel value ⌝ }
 {
     if channel == channels::S {
-        return channels::byte_of(value);
+        return tip_switch::byte_of(value);
     }
     channels::stored_of(format, signs[channel], value)
 }

@@ -8,7 +8,8 @@ use borrow.Author.Tests.{not-true, not-false}
 use lib.ListN.{length, drop, getD, length-map}
 use Rattle.channels.specs.Channel.{widthOf, signedOf}
 use Rattle.channels.specs.declared.Descriptor.{Descriptor}
-use Rattle.descriptions.specs.Description.{absent, tidyDescriptor, tidy, fitsDescriptor, allFit, every}
+use Rattle.channels.specs.Descriptors.{absent}
+use Rattle.descriptions.specs.Description.{tidyDescriptor, tidy, fitsDescriptor, allFit, every}
 use Rattle.description_judging.proofs.Judging.{every-both, every-none, every-fails, every-passes}
 use Rattle.description_judging.proofs.is_sound.Statement.{statement}
 use Rattle.description_judging.proofs.is_sound.Tie as tie

@@ -10,7 +10,7 @@ use lib.ListN.{length, getD, length-map}
 use Rattle.formats.specs.Ascend.{ascend, ascend-binary, ascend-least}
 use Rattle.formats.specs.Binary.{binary, binary-below}
 use Rattle.channels.specs.declared.Descriptor.{Descriptor}
-use Rattle.descriptions.specs.Description.{absent}
+use Rattle.channels.specs.Descriptors.{absent}
 use Rattle.description_writing.proofs.Laying.{flags, flags-next, flags-none}
 use Rattle.description_writing.proofs.inclusion.Statement.{statement}
 use Rattle.description_writing.proofs.inclusion.Tie as tie

@@ -14,7 +14,8 @@ use Rattle.formats.specs.Number.{digits}
 use Rattle.formats.specs.Writes.{encodeEach}
 use Rattle.channels.specs.Channel.{channels, signedOf, widthOf}
 use Rattle.stored_numbers.specs.NumberLaws.{number-laid}
-use Rattle.descriptions.specs.Description.{absent, encodeChannel, encodeDescription, fitsDescriptor, allFit, every}
+use Rattle.channels.specs.Descriptors.{absent}
+use Rattle.descriptions.specs.Description.{encodeChannel, encodeDescription, fitsDescriptor, allFit, every}
 use Rattle.description_judging.proofs.Judging.{every-holds}
 use Rattle.description_writing.proofs.Laying.{left, left-next, left-none}
 use Rattle.description_writing.proofs.put_description.Statement.{statement}

@@ -12,7 +12,8 @@ use Rattle.formats.specs.Reader.{readAt}
 use Rattle.formats.specs.Told.{told-done}
 use Rattle.channels.specs.Channel.{widthOf}
 use Rattle.channels.specs.declared.Descriptor.{Descriptor}
-use Rattle.descriptions.specs.Description.{absent, includes, description}
+use Rattle.channels.specs.Descriptors.{absent}
+use Rattle.descriptions.specs.Description.{includes, description}
 use Rattle.descriptions.specs.Read.{described, undescribed, measured, channelsFrom, descriptorSize}
 use Rattle.descriptions.proofs.Bits.{Moved, moved-none, moved-first, moved-on, moved-out}
 use Rattle.descriptions.proofs.Measuring.{descriptor-whole, descriptor-flags}

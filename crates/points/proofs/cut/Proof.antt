@@ -2,7 +2,7 @@
 use mathlib.Core.Path.{sym, _∙_}
 use native.Mathlib.Omega.{arith}
 use Rattle.formats.specs.Jump.{ends-short}
-use Rattle.channels.specs.Switch.{state-found, state-refused}
+use Rattle.tip_switch.specs.Switch.{state-found, state-refused}
 use Rattle.points.proofs.Walk.{switched-short, switched-bad, switched-ends}
 use borrow.Author.Needs.{needs}
 use Rattle.points.proofs.cut.Statement.{statement}

@@ -3,7 +3,7 @@ use mathlib.Core.Path.{_≡_, sym, _∙_}
 use native.Mathlib.Omega.{arith}
 use Rattle.channels.specs.Channel.{widthOf}
 use Rattle.points.specs.Points.{channels, width}
-use Rattle.points.proofs.Samples.{one-or-two}
+use Rattle.points.specs.SampleLaws.{one-or-two}
 use Rattle.points.proofs.Past.{none-told, empty-told, past-told}
 use borrow.Author.Needs.{needs}
 use Rattle.points.proofs.judge.Statement.{statement}

@@ -8,7 +8,7 @@ use lib.ListN.{length}
 use Rattle.formats.specs.Jump.{ends-there}
 use Rattle.formats.specs.Told.{repeated, repeated-done, repeated-failed, repeated-none}
 use Rattle.formats.specs.declared.Outcome.the-variants.{Done}
-use Rattle.channels.specs.Switch.{state-found, state-refused}
+use Rattle.tip_switch.specs.Switch.{state-found, state-refused}
 use Rattle.points.specs.Parts.{switched}
 use Rattle.points.proofs.Walk.{switched-bad, switched-ends}
 use Rattle.points.proofs.walk_points.Statement.{statement}

@@ -4,15 +4,15 @@ use Rattle.formats.specs.Reader.{readAt}
 use Rattle.formats.specs.Told.{told}
 use Rattle.formats.specs.declared.Outcome.the-variants.{Done}
 use Rattle.channels.specs.Channel.{widthOf}
-use Rattle.record_fronts.specs.Front.{identification}
+use Rattle.identifications.specs.Identification.{identification}
 use Rattle.record_fronts.specs.Fronted.{unfronted, fronted, frontBehind}
 use Rattle.record_fronts.specs.FrontLaws.{fronted-failed, front-done, front-failed, channelled-is}
 use borrow.Author.Needs.{needs}
 use Rattle.record_fronts.proofs.front_at.Statement.{statement}
 use Rattle.record_fronts.proofs.front_at.Tie as tie
 
-identification-end-requires : tie.Need-identification-end-requires
-identification-end-requires c κs = search needs
+end-requires : tie.Need-end-requires
+end-requires c κs = search needs
 
 enum-known-identified : tie.Need-enum-known-identified
 enum-known-identified c = search needs
@@ -28,14 +28,14 @@ returns c =
     let i = c .before .before .before in
     c .no-front .ensures
     ∙ ap unfronted (c .before .enum-told .given .1)
-    ∙ sym (ap fronted (front-failed _ _ (sym (i .identification-end .ensures) ∙ c .before .enum-told .given .1)) ∙ fronted-failed _)
+    ∙ sym (ap fronted (front-failed _ _ (sym (i .end .ensures) ∙ c .before .enum-told .given .1)) ∙ fronted-failed _)
 
 measure-requires : tie.Need-measure-requires
 measure-requires c κs = search needs
 
 -- where the channels begin
 place : (c : tie.After-identified) → told (readAt identification (c .before .before .before .before .args .bytes .now) (c .before .before .before .before .args .start)) ≡ Done (c .identified .given .0 .0)
-place c = sym (c .before .before .identification-end .ensures) ∙ c .identified .given .1
+place c = sym (c .before .before .end .ensures) ∙ c .identified .given .1
 
 front-behind-requires : tie.Need-front-behind-requires
 front-behind-requires c κs = search needs
@@ -50,7 +50,7 @@ pub front-at-spec : {M : Type 1} → statement M
 front-at-spec =
     tie.close
     (tie.spec
-    identification-end-requires
+    end-requires
     enum-known-identified
     enum-told
     no-front-requires

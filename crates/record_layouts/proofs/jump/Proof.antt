@@ -1,4 +1,4 @@
--- `record_layouts::jump` meets its contract. Assumes nothing.
+-- `record_layouts::jump` meets its contract: the bytes are there, or they are cut.
 use mathlib.Core.Path.{sym}
 use native.Mathlib.Omega.{arith}
 use borrow.Author.Needs.{needs}

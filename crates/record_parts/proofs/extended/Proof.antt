@@ -5,7 +5,8 @@ use Prim.Native.Nat.{ℕ, _+_, _-_, _≤_}
 use native.Mathlib.Nat.{sub-self}
 use native.Mathlib.Omega.{arith}
 use lib.ListN.{length, take}
-use Rattle.record_parts.proofs.Lying.{failed-read, nowhere-lies, ends-within, extended-lies, extended-empty}
+use Rattle.record_layouts.specs.LayoutLaws.{failed-read}
+use Rattle.record_parts.proofs.Lying.{nowhere-lies, ends-within, extended-lies, extended-empty}
 use borrow.Author.Needs.{needs}
 use Rattle.record_parts.proofs.extended.Statement.{statement}
 use Rattle.record_parts.proofs.extended.Tie as tie

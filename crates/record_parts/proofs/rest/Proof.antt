@@ -1,7 +1,8 @@
 -- `record_parts::rest` meets its contract: what follows the layout's end.
 use native.Mathlib.Omega.{arith}
 use lib.ListN.{length}
-use Rattle.record_parts.proofs.Lying.{failed-read, nowhere-lies, ends-within, rest-lies}
+use Rattle.record_layouts.specs.LayoutLaws.{failed-read}
+use Rattle.record_parts.proofs.Lying.{nowhere-lies, ends-within, rest-lies}
 use borrow.Author.Needs.{needs}
 use Rattle.record_parts.proofs.rest.Statement.{statement}
 use Rattle.record_parts.proofs.rest.Tie as tie

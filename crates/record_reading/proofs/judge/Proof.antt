@@ -7,8 +7,8 @@ use borrow.Author.Needs.{needs}
 use Rattle.record_reading.proofs.judge.Statement.{statement}
 use Rattle.record_reading.proofs.judge.Tie as tie
 
-identification-end-requires : tie.Need-identification-end-requires
-identification-end-requires c κs = search needs
+end-requires : tie.Need-end-requires
+end-requires c κs = search needs
 
 enum-known-identified : tie.Need-enum-known-identified
 enum-known-identified c = search needs
@@ -26,18 +26,18 @@ unjudged-requires : tie.Need-unjudged-requires
 unjudged-requires c κs = search needs
 
 returns : tie.Need-returns
-returns c = let i = c .before .before in c .judge-behind .ensures (sym (i .identified .given .1) ∙ i .before .before .identification-end .ensures)
+returns c = let i = c .before .before in c .judge-behind .ensures (sym (i .identified .given .1) ∙ i .before .before .end .ensures)
 
 returns-2 : tie.Need-returns-2
 returns-2 c =
     let i = c .before .before .before in
-    c .unjudged .ensures ∙ ap (λ r. unjudged (Refused r)) (c .before .of .ensures) ∙ unidentified _ (sym (i .before .before .identification-end .ensures) ∙ i .identified2 .given .1)
+    c .unjudged .ensures ∙ ap (λ r. unjudged (Refused r)) (c .before .of .ensures) ∙ unidentified _ (sym (i .before .before .end .ensures) ∙ i .identified2 .given .1)
 
 pub judge-spec : {M : Type 1} → statement M
 judge-spec =
     tie.close
     (tie.spec
-    identification-end-requires
+    end-requires
     enum-known-identified
     judge-behind-requires
     enum-known-identified-2

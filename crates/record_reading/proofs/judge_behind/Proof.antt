@@ -6,7 +6,8 @@ use Rattle.formats.specs.Told.{told}
 use Rattle.formats.specs.declared.Outcome.the-variants.{Done}
 use Rattle.channels.specs.Channel.{widthOf}
 use Rattle.records.specs.Record.{fullRecord}
-use Rattle.record_fronts.specs.Front.{identification, channelled}
+use Rattle.identifications.specs.Identification.{identification}
+use Rattle.record_fronts.specs.Front.{channelled}
 use Rattle.record_fronts.specs.Fronted.{fronted, frontBehind}
 use Rattle.record_layouts.specs.Layout.{layoutBehind, layoutAt}
 use Rattle.record_reading.specs.Verdict.{verdictFrom}

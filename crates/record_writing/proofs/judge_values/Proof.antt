@@ -1,12 +1,10 @@
 -- `record_writing::judge_values` meets its contract: each test of the code is a stage of the definition.
-use mathlib.Core.Path.{_≡_, sym, ap, _∙_}
+use mathlib.Core.Path.{_≡_, sym, _∙_}
 use Prim.Native.Nat.{_<_}
 use native.Mathlib.Omega.{arith}
-use Rattle.refusals.specs.Stages.{require}
 use Rattle.channels.specs.Channel.{widthOf}
 use Rattle.values.specs.Values.{judgementOf}
 use Rattle.values.specs.declared.Order.the-variants.{Point}
-use Rattle.records.specs.Record.{stored}
 use Rattle.record_writing.specs.WriteLaws.{at-count, at-values, at-extended, at-last}
 use borrow.Author.Needs.{needs}
 use Rattle.record_writing.proofs.judge_values.Statement.{statement}
@@ -15,23 +13,20 @@ use Rattle.record_writing.proofs.judge_values.Tie as tie
 returns : tie.Need-returns
 returns c = sym (at-count _ _ _ _ _ (c .if1 .taken))
 
-stored-channels-requires : tie.Need-stored-channels-requires
-stored-channels-requires c κs = search needs
-
 judge-requires : tie.Need-judge-requires
 judge-requires c κs = search needs
 
 -- what was found of the values
 module _ (c : tie.After-judge) where
   abbrev start : tie.Start
-  start = c .before .before .before .before
+  start = c .before .before .before
 
   counted : start .args .count < 16777216
-  counted = omega (arith, c .before .before .if1 .left)
+  counted = omega (arith, c .before .if1 .left)
 
-  judged : judgementOf 2 (stored (start .args .d)) Point (start .args .count) (start .args .values .now) ≡ c .judge .result
+  judged : judgementOf 2 (start .args .stored) Point (start .args .count) (start .args .values .now) ≡ c .judge .result
   unfolding widthOf
-  judged = sym (c .judge .ensures ∙ ap (λ l. judgementOf 2 l Point (start .args .count) (start .args .values .now)) (c .before .stored-channels .ensures))
+  judged = sym (c .judge .ensures)
 
 enum-told : tie.Need-enum-told
 enum-told c = search needs
@@ -65,7 +60,6 @@ judge-values-spec =
     tie.close
     (tie.spec
     returns
-    stored-channels-requires
     judge-requires
     enum-told
     returns-2

@@ -5,7 +5,7 @@ use Prim.Native.Nat.{_≤_, _-_}
 use native.Mathlib.Omega.{arith}
 use borrow.Author.Needs.{needs}
 use lib.ListN.{length, length-map, length-set}
-use Rattle.descriptions.specs.Description.{isStored}
+use Rattle.channels.specs.Descriptors.{isStored}
 use Rattle.record_writing.proofs.Marking.{marking, mark-next, marked-all}
 use Rattle.record_writing.proofs.stored_channels.Statement.{statement}
 use Rattle.record_writing.proofs.stored_channels.Tie as tie

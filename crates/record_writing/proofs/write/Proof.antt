@@ -1,5 +1,5 @@
 -- `record_writing::write` meets its contract: how the description was put aside decides whether the record is written.
-use mathlib.Core.Path.{_≡_, sym, ap, _∙_}
+use mathlib.Core.Path.{_≡_, _∙_}
 use Prim.Native.Nat.{_≤_}
 use lib.ListN.{replicate, length}
 use Rattle.formats.specs.Lent.{writing}
@@ -8,6 +8,7 @@ use Rattle.descriptions.specs.Description.{encodeDescription}
 use Rattle.description_writing.specs.Write.{putIf}
 use Rattle.descriptions.specs.SizeLaws.{description-size}
 use Rattle.description_writing.specs.AsideLaws.{aside-done, aside-refused}
+use Rattle.record_writing.specs.WriteLaws.{described-written}
 use Rattle.record_writing.proofs.Laying.{refused-written}
 use borrow.Author.Needs.{needs}
 use Rattle.record_writing.proofs.write.Statement.{statement}
@@ -43,12 +44,14 @@ part-described-start c = search needs
 part-described-end : tie.Need-part-described-end
 part-described-end c = let e = c .before .before in let m = e .before .before .before in aside-done 2 _ _ _ _ (aside m) (fits m) (e .end .given .1) .1
 
+stored-channels-requires : tie.Need-stored-channels-requires
+stored-channels-requires c κs = search needs
+
 write-described-requires : tie.Need-write-described-requires
 write-described-requires c κs =
-    let e = c .before .before .before .before in
+    let e = c .before .before .before .before .before in
     let m = e .before .before .before in
-    let a = aside-done 2 _ _ _ _ (aside m) (fits m) (e .end .given .1) in
-    (a .0, a .2)
+    rw (aside-done 2 _ _ _ _ (aside m) (fits m) (e .end .given .1) .2) (fits m)
 
 enum-known-refusal : tie.Need-enum-known-refusal
 enum-known-refusal c = search needs
@@ -57,7 +60,13 @@ same-length : tie.Need-same-length
 same-length c = search needs
 
 returns : tie.Need-returns
-returns c = search needs
+returns c =
+    let w = c .before .before in
+    let q = w .before .before in
+    let e = q .before .before .before .before in
+    let m = e .before .before .before in
+    let a = aside-done 2 _ _ _ _ (aside m) (fits m) (e .end .given .1) in
+    w .write-described .ensures ∙ described-written _ _ _ _ _ _ (a .0) (a .2) (q .stored-channels .ensures)
 
 returns-2 : tie.Need-returns-2
 returns-2 c =
@@ -76,6 +85,7 @@ write-spec =
     sub-described
     part-described-start
     part-described-end
+    stored-channels-requires
     write-described-requires
     enum-known-refusal
     same-length

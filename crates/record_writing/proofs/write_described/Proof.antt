@@ -1,22 +1,20 @@
 -- `record_writing::write_described` meets its contract: what the stages say, and then the room, decides what becomes of the output.
 use mathlib.Core.Path.{_≡_, sym, ap, ap₂, _∙_}
 use mathlib.Core.Bool.{cond}
+use mathlib.Core.List.{List}
 use mathlib.Core.Option.{some, none}
 use Prim.Native.Nat.{ℕ, _+_, _*_}
 use native.Mathlib.Omega.{arith}
 use lib.ListN.{length}
 use borrow.Author.Tests.{le-leb, lt-leb}
 use Rattle.formats.specs.Lent.{writing}
-use Rattle.refusals.specs.Stages.{orElse}
 use Rattle.refusals.specs.declared.Judgement.{Judgement}
 use Rattle.refusals.specs.declared.Judgement.the-variants.{Passed}
 use Rattle.channels.specs.Channel.{widthOf}
 use Rattle.points.specs.Points.{width}
-use Rattle.descriptions.specs.Description.{encodeDescription}
-use Rattle.descriptions.specs.SizeLaws.{description-size}
-use Rattle.records.specs.Record.{Record, encode, stored, encodeExtended}
-use Rattle.record_writing.specs.Write.{recordOf, judgementOf, Passes, putWhere, writeOf}
-use Rattle.record_writing.specs.WriteLaws.{passes, record-length}
+use Rattle.records.specs.Record.{Record, stored, encodeExtended}
+use Rattle.record_writing.specs.Write.{recordBytes, putWhere, writeDescribed, NumbersPass}
+use Rattle.record_writing.specs.WriteLaws.{numbers-pass, bytes-length}
 use Rattle.record_writing.specs.declared.Written.the-variants as written
 use borrow.Author.Needs.{needs}
 use Rattle.record_writing.proofs.write_described.Statement.{statement}
@@ -33,23 +31,17 @@ module _ (m : tie.After-judge-values) where
   abbrev asked : tie.Start
   asked = m .before .before .before .before
 
-  abbrev meant : Record
-  meant = recordOf (asked .args .d) (asked .args .count) (asked .args .values .now) (asked .args .wanted) (asked .args .extended .now)
-
-  abbrev stages : Judgement
-  stages = judgementOf (asked .args .d) (asked .args .count) (asked .args .values .now) (asked .args .wanted) (asked .args .extended .now)
-
-  judged : m .judge-values .result ≡ stages
-  unfolding judgementOf orElse
-  judged = m .judge-values .ensures ∙ sym (rw (asked .pre .0))
+  abbrev meant : List ℕ
+  meant = recordBytes (asked .args .described .now) (asked .args .stored) (asked .args .count) (asked .args .values .now) (asked .args .wanted) (asked .args .extended .now)
 
   by : {j : Judgement} → m .judge-values .result ≡ j
-      → writeOf (asked .args .d) (asked .args .count) (asked .args .values .now) (asked .args .wanted) (asked .args .extended .now) (asked .args .out .now) ≡ putWhere meant (asked .args .out .now) j
-  unfolding writeOf
-  by e = ap (putWhere meant (asked .args .out .now)) (sym judged ∙ e)
+      → writeDescribed (asked .args .described .now) (asked .args .stored) (asked .args .count) (asked .args .values .now) (asked .args .wanted) (asked .args .extended .now) (asked .args .out .now)
+      ≡ putWhere meant (asked .args .out .now) j
+  unfolding writeDescribed
+  by e = ap (putWhere meant (asked .args .out .now)) (sym (m .judge-values .ensures) ∙ e)
 
-  pass : m .judge-values .result ≡ Passed → Passes (asked .args .d) (asked .args .count) (asked .args .values .now) (asked .args .wanted) (asked .args .extended .now)
-  pass e = passes (asked .args .d) (asked .args .count) (asked .args .values .now) (asked .args .wanted) (asked .args .extended .now) (sym judged ∙ e)
+  pass : m .judge-values .result ≡ Passed → NumbersPass (asked .args .stored) (asked .args .count) (asked .args .values .now) (asked .args .wanted) (asked .args .extended .now)
+  pass e = numbers-pass (asked .args .stored) (asked .args .count) (asked .args .values .now) (asked .args .wanted) (asked .args .extended .now) (sym (m .judge-values .ensures) ∙ e)
 
 returns : tie.Need-returns
 unfolding putWhere
@@ -61,24 +53,20 @@ returns c =
 enum-told : tie.Need-enum-told
 enum-told c = search needs
 
-stored-channels-requires : tie.Need-stored-channels-requires
-stored-channels-requires c κs = search needs
-
 width-requires : tie.Need-width-requires
 width-requires c κs = search needs
 
 record-size-requires : tie.Need-record-size-requires
 record-size-requires c κs =
-    let e = c .before .before in
+    let e = c .before in
     let m = e .before .before in
     let q = pass m (e .enum-told .given .1) in
-    let z = ap length (asked m .pre .1) in
-    (omega (arith, z, description-size 2 (asked m .args .d)), c .width .ensures .1, q .counted, q .small)
+    (asked m .pre, c .width .ensures .1, q .counted, q .small)
 
 -- the size, by its parts
 module _ (c : tie.After-record-size) where
   abbrev passed : tie.After-enum-told
-  passed = c .before .before .before
+  passed = c .before .before
 
   abbrev from : tie.After-judge-values
   from = passed .before .before
@@ -86,28 +74,28 @@ module _ (c : tie.After-record-size) where
   abbrev extra : ℕ
   extra = length (encodeExtended (cond (asked from .args .wanted) (some (asked from .args .extended .now)) none))
 
-  size : c .record-size .result ≡ length (encode (meant from))
+  size : c .record-size .result ≡ length (meant from)
   unfolding widthOf
   size =
       let a = asked from .args in
       c .record-size .ensures
-      ∙ ap₂ (λ x y. x + a .count * y + extra + 13) (ap length (asked from .pre .1)) (c .before .width .ensures .0 ∙ ap (width 2) (c .before .before .stored-channels .ensures))
-      ∙ record-length (a .d) (a .count) (a .values .now) (a .wanted) (a .extended .now) (pass from (passed .enum-told .given .1) .fitting)
+      ∙ ap (λ y. length (a .described .now) + a .count * y + extra + 13) (c .before .width .ensures .0)
+      ∙ bytes-length (a .stored) (a .count) (a .values .now) (a .wanted) (a .extended .now) (a .described .now) (pass from (passed .enum-told .given .1) .fitting)
 
 returns-2 : tie.Need-returns-2
 unfolding putWhere
 returns-2 c =
     let r = c .before in
-    let e = r .before .before .before in
+    let e = r .before .before in
     let m = e .before .before in
-    sym (by m (e .enum-told .given .1) ∙ rw (lt-leb (length (encode (meant m))) (length (asked m .args .out .now)) (omega (arith, size r))))
+    sym (by m (e .enum-told .given .1) ∙ rw (lt-leb (length (meant m)) (length (asked m .args .out .now)) (omega (arith, size r))))
 
 put-record-requires : tie.Need-put-record-requires
 put-record-requires c κs =
     let r = c .before .before in
-    let e = r .before .before .before in
+    let e = r .before .before in
     let m = e .before .before in
-    (asked m .pre .1, pass m (e .enum-told .given .1), record { enough = omega (arith, size r) })
+    (pass m (e .enum-told .given .1), record { enough = omega (arith, size r) })
 
 same-length : tie.Need-same-length
 same-length c = search needs
@@ -117,10 +105,10 @@ unfolding putWhere
 returns-3 c =
     let q = c .before .before in
     let r = q .before .before .before in
-    let e = r .before .before .before in
+    let e = r .before .before in
     let m = e .before .before in
     ap₂ (λ n t. writing (written.Record n) t) (size r) (q .put-record .ensures .bytes)
-    ∙ sym (by m (e .enum-told .given .1) ∙ rw (le-leb (length (encode (meant m))) (length (asked m .args .out .now)) (omega (arith, size r))))
+    ∙ sym (by m (e .enum-told .given .1) ∙ rw (le-leb (length (meant m)) (length (asked m .args .out .now)) (omega (arith, size r))))
 
 pub write-described-spec : {M : Type 1} → statement M
 write-described-spec =
@@ -130,7 +118,6 @@ write-described-spec =
     enum-known-judged
     returns
     enum-told
-    stored-channels-requires
     width-requires
     record-size-requires
     returns-2

@@ -1,0 +1,4 @@
+-- `Places`: a point as sixteen places. `Parts`: what one number and one place are told as. `Answers`: no public function has a second answer.
+pub mod Places
+pub mod Parts
+pub mod Answers

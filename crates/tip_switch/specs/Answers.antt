@@ -1,0 +1,12 @@
+-- Each public function has one answer: whatever meets its promise is the same.
+use mathlib.Core.Path.{_≡_}
+use Prim.Native.Nat.{ℕ}
+use lib.IntN.{ℤ}
+use Rattle.formats.specs.OneAnswer.{OneAnswer, named}
+use Rattle.tip_switch.specs.Switch.{stateIf, byteIf}
+
+pub one-state : (byte : ℕ) → OneAnswer (λ r. r ≡ stateIf byte)
+one-state byte = named
+
+pub one-byte : (state : ℤ) → OneAnswer (λ r. r ≡ byteIf state)
+one-byte state = named
