@@ -1,9 +1,5 @@
-// Questions: each is read from its words, asked of the library, and answered.
-mod thousandths;
-
+// Questions: the name of each is found, and the bytes that it is asked of; the rooms of the questions answer.
 use hex::Amount;
-use record_points::Pointed;
-use refusals::Judgement;
 
 const JUDGE: usize = 0;
 
@@ -45,8 +41,8 @@ pub fn answer(text: &mut [u8; 65536], used: u16, line: &[u8]) -> u16 {
         POINT..=STEP => of_number_and_bytes(text, used, question, line, span.to),
         WRITE => writing_questions::write(text, used, line, span.to),
         WRITE_TEMPLATE => writing_questions::write_template(text, used, line, span.to),
-        THOUSANDTHS => thousandths::raw(text, used, line, span.to),
-        PLACE => thousandths::place(text, used, line, span.to),
+        THOUSANDTHS => reading_questions::raw(text, used, line, span.to),
+        PLACE => reading_questions::place(text, used, line, span.to),
         _ => answers::cannot(text, used, answers::NO_SUCH_QUESTION),
     }
 }
@@ -102,67 +98,11 @@ fn of_bytes(
 // What is asked of bytes; of a point its index is told, and of a step its place.
 fn ask(text: &mut [u8; 65536], used: u16, question: usize, index: usize, bytes: &[u8]) -> u16 {
     match question {
-        JUDGE..=WHOLE => judge(text, used, bytes, question == WHOLE),
-        EXTENDED => put_bytes(text, used, record_parts::extended(bytes)),
-        REST => put_bytes(text, used, record_parts::rest(bytes)),
-        POINT => point(text, used, bytes, index),
-        STEP => step(text, used, bytes, index),
-        _ => template(text, used, bytes),
+        JUDGE..=WHOLE => record_questions::judge(text, used, bytes, question == WHOLE),
+        EXTENDED => record_questions::extended(text, used, bytes),
+        REST => record_questions::rest(text, used, bytes),
+        POINT => record_questions::point(text, used, bytes, index),
+        STEP => record_questions::step(text, used, bytes, index),
+        _ => template_questions::read(text, used, bytes),
     }
-}
-
-// Where there is no record the description says nothing of any channel, and no word of it is put.
-fn judge(text: &mut [u8; 65536], start: u16, bytes: &[u8], whole: bool) -> u16 {
-    let judged = if whole {
-        record_reading::judge_whole(bytes)
-    } else {
-        record_reading::judge(bytes)
-    };
-    let verdict = judged.verdict;
-    let used = answers::put(text, start, answers::of_verdict(verdict));
-    sayings::put_description(text, used, judged.description)
-}
-
-fn put_bytes(text: &mut [u8; 65536], start: u16, bytes: &[u8]) -> u16 {
-    let used = texts::put_bytes(text, start, b"bytes ");
-    texts::put_hex(text, used, bytes)
-}
-
-fn point(text: &mut [u8; 65536], start: u16, bytes: &[u8], index: usize) -> u16 {
-    let pointed = record_points::judge_point(bytes, index);
-    let used = answers::put(text, start, answers::of_pointed(pointed));
-    if let Pointed::Point = pointed {
-        return answers::put_places(text, used, record_points::point(bytes, index));
-    }
-    used
-}
-
-fn step(text: &mut [u8; 65536], start: u16, file: &[u8], place: usize) -> u16 {
-    let step = walks::step_at(file, place);
-    let found = step.found;
-    let used = answers::put(text, start, answers::of_found(found));
-    let used = texts::put_bytes(text, used, b" next");
-    texts::put_field(text, used, step.next as u64)
-}
-
-// The template that the bytes are, its maximum first, since a description has any number of words.
-fn template(text: &mut [u8; 65536], start: u16, bytes: &[u8]) -> u16 {
-    let judged = templates::read(bytes);
-    let verdict = judged.verdict;
-    match verdict {
-        Judgement::Passed => put_template(text, start, judged.template),
-        Judgement::Refused(refusal) => answers::put(text, start, answers::of_refusal(refusal)),
-    }
-}
-
-// Where a template has no description, `!` says so; the description says nothing then, and no word of it is put.
-fn put_template(text: &mut [u8; 65536], start: u16, template: templates::Template) -> u16 {
-    let described = template.described;
-    let description = template.description;
-    let maximum = answers::of_maximum(template.limited, template.maximum);
-    let used = answers::put(text, start, maximum);
-    if described {
-        return sayings::put_description(text, used, description);
-    }
-    answers::put_last(text, used, answers::NONE)
 }

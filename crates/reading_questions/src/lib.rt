@@ -1,4 +1,4 @@
-// The questions for thousandths: of a raw number, and of a place of a point.
+// The questions for thousandths, of a raw number and of a place of a point: each is read from its words, asked of the library, and answered.
 use readings::PlaceReading;
 use readings::Reading;
 
@@ -13,7 +13,7 @@ fn put_reading(text: &mut [u8; 65536], start: u16, reading: Reading) -> u16 {
 }
 
 // Raw number, E, F.
-pub(crate) fn raw(text: &mut [u8; 65536], used: u16, line: &[u8], at: usize) -> u16 {
+pub fn raw(text: &mut [u8; 65536], used: u16, line: &[u8], at: usize) -> u16 {
     let raw = numerals::whole_at(line, at);
     let e = numerals::natural_at(line, raw.behind, 18446744073709551615);
     let f = numerals::natural_at(line, e.behind, 18446744073709551615);
@@ -30,7 +30,7 @@ pub(crate) fn raw(text: &mut [u8; 65536], used: u16, line: &[u8], at: usize) -> 
 }
 
 // A place of a point, and its channel's scaling value.
-pub(crate) fn place(text: &mut [u8; 65536], used: u16, line: &[u8], at: usize) -> u16 {
+pub fn place(text: &mut [u8; 65536], used: u16, line: &[u8], at: usize) -> u16 {
     let placed = fields::place_at(line, at);
     let scaling = fields::scaling_at(line, placed.behind);
     let end = fields::first_of(scaling.reason, fields::end_at(line, scaling.behind));
