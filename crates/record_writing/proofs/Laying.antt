@@ -17,7 +17,8 @@ use Rattle.refusals.specs.declared.Refusal.{Refusal}
 use Rattle.refusals.specs.declared.Judgement.the-variants.{Refused}
 use Rattle.description_judging.specs.Judging as described
 use Rattle.records.specs.Record.{encodeExtended}
-use Rattle.record_writing.specs.Write.{judgementOf, putWhere, writeOf, openingBytes}
+use Rattle.record_writing.specs.Write.{judgementOf, putWhere, writeOf}
+use Rattle.record_writing.specs.Parts.{openingBytes}
 use Rattle.record_writing.specs.declared.Written.the-variants as answers
 
 -- ---- What stands before the points

@@ -1,14 +1,13 @@
 -- Writing a full record: what keeps one from being written, stage by stage, and what becomes of the bytes that a writer is lent.
 use mathlib.Core.Path.{_≡_}
 use mathlib.Core.Bool.{Bool, cond, not, _&&_}
-use mathlib.Core.List.{List, [], _∷_, _++_, flatMap}
+use mathlib.Core.List.{List, [], _∷_}
 use mathlib.Core.Option.{none, some}
 use Prim.Native.Nat.{ℕ, _<_}
 use lib.Dec.{T, ltb, leb}
 use lib.IntN.{ℤ}
 use lib.ListN.{length}
 use Rattle.formats.specs.Put.{puts}
-use Rattle.formats.specs.Number.{digits}
 use Rattle.formats.specs.Lent.{Writing, writing}
 use Rattle.refusals.specs.Stages.{require, orElse, stages}
 use Rattle.refusals.specs.declared.Quantity.the-variants as quantity
@@ -17,11 +16,10 @@ use Rattle.refusals.specs.declared.Judgement.{Judgement}
 use Rattle.refusals.specs.declared.Judgement.the-variants as judgement
 use Rattle.channels.specs.declared.Description.{Description}
 use Rattle.description_judging.specs.Judging as described
-use Rattle.points.specs.Points.{encodePoint}
 use Rattle.values.specs.Values as values
 use Rattle.values.specs.Values.{size, pointsOf}
 use Rattle.values.specs.declared.Order.the-variants.{Point}
-use Rattle.records.specs.Record.{Record, identifierBytes, versionBytes, stored, encodeExtended, encode}
+use Rattle.records.specs.Record.{Record, stored, encode}
 use Rattle.record_writing.specs.declared.Written.{Written}
 use Rattle.record_writing.specs.declared.Written.the-variants as written
 
@@ -54,25 +52,8 @@ putWhere bytes out (judgement.Refused refusal) = writing (written.Refused refusa
 unfoldable pub writeOf : Description → (count : ℕ) (numbers : List ℤ) (wanted : Bool) (extended : List ℕ) (out : List ℕ) → Writing Written
 writeOf d count numbers wanted extended out = putWhere (encode (recordOf d count numbers wanted extended)) out (judgementOf d count numbers wanted extended)
 
--- ---- The parts, as they are put one behind the other
+-- ---- What holds of a record that passed the stages behind the description's, and of one that passed every stage but the room
 
-unfoldable pub openingBytes : (wanted : Bool) (count : ℕ) → List ℕ
-openingBytes wanted count = 0x00 ∷ cond wanted 0x80 0x00 ∷ digits 3 count
-
-unfoldable pub frontBytes : (described : List ℕ) (wanted : Bool) (count : ℕ) → List ℕ
-frontBytes described wanted count = identifierBytes ++ versionBytes ++ described ++ openingBytes wanted count
-
-unfoldable pub recordBytes : (described : List ℕ) (stored : List Bool) (count : ℕ) (numbers : List ℤ) (wanted : Bool) (extended : List ℕ) → List ℕ
-recordBytes described stored count numbers wanted extended =
-    frontBytes described wanted count
-    ++ (flatMap (encodePoint 2 stored) (pointsOf Point count (size stored) numbers) ++ encodeExtended (cond wanted (some extended) none))
-
--- what becomes of a record whose description was put aside: it is known by its bytes and by the channels that are stored
-unfoldable pub writeDescribed : (described : List ℕ) (stored : List Bool) (count : ℕ) (numbers : List ℤ) (wanted : Bool) (extended : List ℕ) (out : List ℕ) → Writing Written
-writeDescribed described stored count numbers wanted extended out =
-    putWhere (recordBytes described stored count numbers wanted extended) out (numbersJudged stored count numbers wanted extended)
-
--- what holds of a record that passed the stages behind the description's, and of one that passed every stage but the room
 pub record NumbersPass (stored : List Bool) (count : ℕ) (numbers : List ℤ) (wanted : Bool) (extended : List ℕ) : Type 0 where
   pub counted : count < 16777216
   pub fitting : values.judgementOf 2 stored Point count numbers ≡ judgement.Passed

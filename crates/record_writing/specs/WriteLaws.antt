@@ -26,7 +26,8 @@ use Rattle.descriptions.specs.Description.{encodeDescription}
 use Rattle.description_judging.specs.Judging as described
 use Rattle.description_judging.specs.JudgingLaws.{passed-valid}
 use Rattle.records.specs.Record.{identifierBytes, versionBytes, stored, openingByte, encodeExtended, encode, ValidExtended, Valid}
-use Rattle.record_writing.specs.Write.{recordOf, countStage, extendedStage, numbersJudged, judgementOf, writeOf, openingBytes, frontBytes, recordBytes, writeDescribed, NumbersPass, Passes}
+use Rattle.record_writing.specs.Write.{recordOf, countStage, extendedStage, numbersJudged, judgementOf, writeOf, NumbersPass, Passes}
+use Rattle.record_writing.specs.Parts.{openingBytes, frontBytes, recordBytes, writeDescribed}
 
 -- ---- Small facts
 

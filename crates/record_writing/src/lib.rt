@@ -18,7 +18,8 @@ ghost use Rattle.channels.specs.Descriptors.{isStored};
 ghost use Rattle.descriptions.specs.Description.{description};
 ghost use Rattle.refusals.specs.declared.Judgement.the-variants.{Passed};
 ghost use Rattle.records.specs.Record.{encodeExtended};
-ghost use Rattle.record_writing.specs.Write.{openingBytes, frontBytes, recordBytes, numbersJudged, NumbersPass, writeDescribed, writeOf};
+ghost use Rattle.record_writing.specs.Write.{numbersJudged, NumbersPass, writeOf};
+ghost use Rattle.record_writing.specs.Parts.{openingBytes, frontBytes, recordBytes, writeDescribed};
 
 // Which channels a sample point holds a number of.
 fn stored_channels(d: Description) -> [bool; 16]

@@ -3,7 +3,7 @@ use mathlib.Core.List.{List, _++_}
 use Prim.Native.Nat.{ℕ}
 use Rattle.formats.specs.Laid.{Room, Laid, laid-more, room-first, room-rest, within-laid}
 use Rattle.records.specs.Record.{identifierBytes, versionBytes}
-use Rattle.record_writing.specs.Write.{openingBytes, frontBytes}
+use Rattle.record_writing.specs.Parts.{openingBytes, frontBytes}
 use borrow.Author.Needs.{needs}
 use Rattle.record_writing.proofs.put_front.Statement.{statement}
 use Rattle.record_writing.proofs.put_front.Tie as tie

@@ -10,7 +10,7 @@ use Rattle.values.specs.Values.{size, pointsOf}
 use Rattle.values.specs.OrderLaws.{put-laid}
 use Rattle.values.specs.declared.Order.the-variants.{Point}
 use Rattle.records.specs.Record.{encodeExtended}
-use Rattle.record_writing.specs.Write.{frontBytes, recordBytes}
+use Rattle.record_writing.specs.Parts.{frontBytes, recordBytes}
 use borrow.Author.Needs.{needs}
 use Rattle.record_writing.proofs.put_record.Statement.{statement}
 use Rattle.record_writing.proofs.put_record.Tie as tie

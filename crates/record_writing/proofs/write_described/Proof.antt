@@ -13,7 +13,8 @@ use Rattle.refusals.specs.declared.Judgement.the-variants.{Passed}
 use Rattle.channels.specs.Channel.{widthOf}
 use Rattle.points.specs.Points.{width}
 use Rattle.records.specs.Record.{Record, stored, encodeExtended}
-use Rattle.record_writing.specs.Write.{recordBytes, putWhere, writeDescribed, NumbersPass}
+use Rattle.record_writing.specs.Write.{putWhere, NumbersPass}
+use Rattle.record_writing.specs.Parts.{recordBytes, writeDescribed}
 use Rattle.record_writing.specs.WriteLaws.{numbers-pass, bytes-length}
 use Rattle.record_writing.specs.declared.Written.the-variants as written
 use borrow.Author.Needs.{needs}
