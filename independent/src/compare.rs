@@ -8,8 +8,9 @@ use std::thread;
 use crate::answers;
 use crate::listing;
 
-/// How many differences are shown; all are counted.
+/// How many differences are shown, and how many broken claims of a kind; all are counted.
 const SHOWN: usize = 20;
+const CLAIMS_SHOWN: usize = 5;
 /// A process of `ask` gets at most so many questions, and about so many bytes of them.
 const QUESTIONS: usize = 40_000;
 const BYTES: usize = 32_000_000;
@@ -28,13 +29,26 @@ struct Asked {
     answer: String,
 }
 
+/// A question with what the program answered, if it did.
+pub struct Answered {
+    pub question: Vec<u8>,
+    pub theirs: Option<Vec<u8>>,
+}
+
+/// How many comparisons of a kind were made, and how many of them failed.
+struct Kind {
+    name: &'static str,
+    made: usize,
+    failed: usize,
+}
+
 pub struct Comparison {
     /// None while the program only checks itself.
     programs: Option<Programs>,
     cases: usize,
     waiting: Vec<Asked>,
     waiting_bytes: usize,
-    kinds: Vec<(&'static str, usize)>,
+    kinds: Vec<Kind>,
     /// How often each answer was expected, by its first words.
     expected: BTreeMap<String, usize>,
     passed: usize,
@@ -62,16 +76,73 @@ impl Comparison {
 
     /// A question whose answer is worked out here.
     pub fn ask(&mut self, kind: &'static str, line: impl Into<Vec<u8>>) {
-        let question = line.into();
+        let asked = self.work_out(kind, line.into());
+        if self.programs.is_some() {
+            self.wait(asked);
+        }
+    }
+
+    fn work_out(&mut self, kind: &'static str, question: Vec<u8>) -> Asked {
         let answer = answers::answer(&question);
         self.expect(&answer);
-        if self.programs.is_some() {
-            self.wait(Asked {
-                kind,
-                question,
-                answer,
-            });
+        Asked {
+            kind,
+            question,
+            answer,
         }
+    }
+
+    /// Questions that are asked and compared as the others are, but at once. The program's
+    /// own answers come back in the order asked, so that claims can be judged on them.
+    pub fn answers_to(&mut self, kind: &'static str, lines: &[String]) -> Vec<Answered> {
+        // What waits was asked before them.
+        self.flush();
+        let mut answered = Vec::new();
+        for lines in lines.chunks(QUESTIONS) {
+            let questions = lines.iter().map(|line| line.as_bytes().to_vec());
+            let asked = questions.map(|line| self.work_out(kind, line)).collect();
+            answered.extend(self.answered(asked));
+        }
+        answered
+    }
+
+    /// The answers of one process; this program's own while it only checks itself.
+    fn answered(&mut self, asked: Vec<Asked>) -> Vec<Answered> {
+        if self.programs.is_none() {
+            let itself = |each: Asked| Answered {
+                question: each.question,
+                theirs: Some(each.answer.into_bytes()),
+            };
+            return asked.into_iter().map(itself).collect();
+        }
+        let output = self.run_ask(&asked, lines_of(&asked));
+        let mut lines = output.split(|byte| *byte == b'\n');
+        let with_theirs = |each: Asked| Answered {
+            question: each.question,
+            theirs: lines.next().map(<[u8]>::to_vec),
+        };
+        asked.into_iter().map(with_theirs).collect()
+    }
+
+    /// Counts one claim on two answers of the program, and shows it where it does not hold.
+    pub fn claim(
+        &mut self,
+        kind: &'static str,
+        claim: &str,
+        answered: [&Answered; 2],
+        holds: bool,
+    ) {
+        let counted = self.kind(kind);
+        counted.made += 1;
+        if holds {
+            self.passed += 1;
+            return;
+        }
+        counted.failed += 1;
+        if counted.failed <= CLAIMS_SHOWN {
+            println!("{}", broken(kind, claim, answered));
+        }
+        self.failed += 1;
     }
 
     /// A question whose answer was typed from a paper.
@@ -99,12 +170,13 @@ impl Comparison {
         };
         let asked: Vec<Asked> = lines.zip(answers::all(&input)).map(of).collect();
         if self.programs.is_some() {
-            self.run_ask(asked, input);
+            self.run_ask(&asked, input);
         }
     }
 
     fn wait(&mut self, asked: Asked) {
-        self.count(asked.kind, 0);
+        // Kinds are shown in the order in which they were first asked.
+        self.kind(asked.kind);
         self.waiting_bytes += asked.question.len() + asked.answer.len();
         self.waiting.push(asked);
         if self.waiting.len() >= QUESTIONS || self.waiting_bytes >= BYTES {
@@ -119,21 +191,17 @@ impl Comparison {
         if asked.is_empty() {
             return;
         }
-        let mut input = Vec::new();
-        for each in &asked {
-            input.extend(&each.question);
-            input.push(b'\n');
-        }
-        self.run_ask(asked, input);
+        self.run_ask(&asked, lines_of(&asked));
     }
 
-    fn run_ask(&mut self, asked: Vec<Asked>, input: Vec<u8>) {
+    /// Compares the answers of one process, and gives back its output.
+    fn run_ask(&mut self, asked: &[Asked], input: Vec<u8>) -> Vec<u8> {
         let Some(programs) = &self.programs else {
-            return;
+            return Vec::new();
         };
         let (output, ended_well) = run(&programs.wrapper, &programs.ask, input);
         let mut lines = output.split(|byte| *byte == b'\n');
-        for each in &asked {
+        for each in asked {
             self.settle(each, lines.next());
         }
         // Behind the last answer's line feed there is nothing.
@@ -144,6 +212,7 @@ impl Comparison {
         if !ended_well {
             self.fail("ask: the process did not end well");
         }
+        output
     }
 
     /// A file whose listing is worked out here.
@@ -197,21 +266,26 @@ impl Comparison {
 
     /// Counts one comparison and shows a difference.
     fn settle(&mut self, asked: &Asked, theirs: Option<&[u8]>) {
-        self.count(asked.kind, 1);
+        let kind = self.kind(asked.kind);
+        kind.made += 1;
         if theirs == Some(asked.answer.as_bytes()) {
             self.passed += 1;
         } else {
+            kind.failed += 1;
             let text = difference(asked, theirs);
             self.fail(&text);
         }
     }
 
-    /// Kinds are shown in the order in which they first came up.
-    fn count(&mut self, kind: &'static str, more: usize) {
-        match self.kinds.iter_mut().find(|(known, _)| *known == kind) {
-            Some((_, made)) => *made += more,
-            None => self.kinds.push((kind, more)),
+    /// Kinds are kept in the order in which they first came up.
+    fn kind(&mut self, name: &'static str) -> &mut Kind {
+        let known = self.kinds.iter().position(|kind| kind.name == name);
+        let index = known.unwrap_or(self.kinds.len());
+        if known.is_none() {
+            let (made, failed) = (0, 0);
+            self.kinds.push(Kind { name, made, failed });
         }
+        &mut self.kinds[index]
     }
 
     fn fail(&mut self, text: &str) {
@@ -231,12 +305,25 @@ impl Comparison {
     /// The counts; the last line says how many passed and failed.
     pub fn finish(mut self) -> bool {
         self.flush();
-        for (kind, made) in &self.kinds {
-            println!("{kind}: {made}");
+        for Kind { name, made, failed } in &self.kinds {
+            match failed {
+                0 => println!("{name}: {made}"),
+                _ => println!("{name}: {made}, {failed} failed"),
+            }
         }
         println!("{} passed, {} failed", self.passed, self.failed);
         self.failed == 0
     }
+}
+
+/// The questions as one input, a line feed behind each.
+fn lines_of(asked: &[Asked]) -> Vec<u8> {
+    let mut input = Vec::new();
+    for each in asked {
+        input.extend(&each.question);
+        input.push(b'\n');
+    }
+    input
 }
 
 /// The program's output, and whether it ended well. Input is written from a thread, so that
@@ -290,6 +377,21 @@ fn difference(asked: &Asked, theirs: Option<&[u8]>) -> String {
         .count();
     let (ours, theirs) = (cut(ours, same, 400), cut(theirs, same, 400));
     format!("{head}\n  ours:   {ours}\n  theirs: {theirs}\n  first difference at byte {same}")
+}
+
+/// A claim that does not hold, with both questions and what the program answered.
+fn broken(kind: &str, claim: &str, answered: [&Answered; 2]) -> String {
+    let shown = answered.map(|Answered { question, theirs }| {
+        let theirs = match theirs {
+            Some(theirs) => cut(theirs, 0, 400),
+            None => "no answer".to_string(),
+        };
+        format!("\n  asked:  {}\n  theirs: {theirs}", cut(question, 0, 2000))
+    });
+    format!(
+        "broken claim in {kind}{}\n  claim:  {claim}",
+        shown.concat()
+    )
 }
 
 /// A long text is cut to its beginning and the part around `middle`.

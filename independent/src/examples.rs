@@ -5,6 +5,7 @@ use crate::compare::Comparison;
 const SCOPE: &str = "examples of document 01";
 const ASK: &str = "examples of the paper on ask";
 const ANNEX: &str = "examples of annex C";
+const ORDER: &str = "examples of request L11";
 
 /// M of document 01: a record with no points.
 const M: &[u8] = &[
@@ -22,6 +23,7 @@ pub fn ask_all(comparison: &mut Comparison) {
         (SCOPE, SCOPE_EXAMPLES),
         (ASK, ASK_EXAMPLES),
         (ANNEX, ANNEX_EXAMPLES),
+        (ORDER, ORDER_EXAMPLES),
     ] {
         for (line, answer) in examples {
             comparison.ask_typed(kind, line, answer);
@@ -200,6 +202,30 @@ const ANNEX_EXAMPLES: Typed = &[
     ("write-template ! 11 X Y DT.scaling=46208.constant", "written 11 B1098107C080000084B480"),
     // C.2.2 is a compact body, which is no template.
     ("template 5F 2E 82 03 B6 AC F2 A9 F2", "refused 16"),
+];
+
+/// The bound of request L11 is sharp. In thousandths E 25 gives raw * 1000 * 4 / (2048 + F).
+const ORDER_EXAMPLES: Typed = &[
+    // F 1953 is scale 4001 / 4 = 1000.25: raw * 4000 / 4001, which is raw - raw / 4001.
+    // 2000 / 4001 is below a half, so 2000 stays; 2001 / 4001 is above it, so 2001 is 2000 too.
+    ("thousandths 2000 25 1953", "thousandths 2000"),
+    ("thousandths 2001 25 1953", "thousandths 2000"),
+    ("thousandths -2000 25 1953", "thousandths -2000"),
+    ("thousandths -2001 25 1953", "thousandths -2000"),
+    // F 1952 is scale 4000 / 4 = 1000: raw * 4000 / 4000, which is raw.
+    ("thousandths 2000 25 1952", "thousandths 2000"),
+    ("thousandths 2001 25 1952", "thousandths 2001"),
+    ("thousandths -2000 25 1952", "thousandths -2000"),
+    ("thousandths -2001 25 1952", "thousandths -2001"),
+    // The scaling values of these two: 2048 * 25 = 51200, with 1953 it is 53153, with 1952 53152.
+    ("place 2000 53153", "thousandths 2000"),
+    ("place 2001 53153", "thousandths 2000"),
+    ("place -2000 53153", "thousandths -2000"),
+    ("place -2001 53153", "thousandths -2000"),
+    ("place 2000 53152", "thousandths 2000"),
+    ("place 2001 53152", "thousandths 2001"),
+    ("place -2000 53152", "thousandths -2000"),
+    ("place -2001 53152", "thousandths -2001"),
 ];
 
 /// C.1 with all of its 475 points, the third one standing for those not printed.

@@ -1,5 +1,6 @@
 //! The check of this program by itself, before there is any other: what it writes it reads
-//! back, what it reads it writes again, and the typed answers are its own.
+//! back, what it reads it writes again, its readings keep the order of request L11, and the
+//! typed answers are its own.
 
 use crate::asking;
 use crate::compare::Comparison;
@@ -9,7 +10,7 @@ use crate::random::Random;
 use crate::record::{self, Place, Record};
 use crate::refusal::Refusal;
 use crate::template::{self, Template};
-use crate::thousandths::thousandths;
+use crate::thousandths::{first_shared, scale_at_most_1000, thousandths, ES, FS, RAWS};
 use crate::writing::{self, Parts, LONGEST_EXTENDED};
 
 #[derive(Default)]
@@ -48,8 +49,10 @@ pub fn check(seed: u64, cases: usize) -> bool {
         parts.extended = Some(random.bytes(LONGEST_EXTENDED));
         record_there_and_back(&mut counts, &mut random, parts);
     }
+    order(&mut counts, &mut random, cases);
     println!("checks of itself: {} good, {} bad", counts.good, counts.bad);
-    // The answers typed from the papers; the other questions are only worked through.
+    // The answers typed from the papers, and the claims on runs of its own answers; the other
+    // questions are only worked through.
     let mut comparison = Comparison::new(None, cases);
     asking::everything(&mut comparison, seed);
     comparison.show_expected();
@@ -135,4 +138,85 @@ fn nearest(counts: &mut Counts, random: &mut Random) {
     let near = 2 * away.abs() < below;
     let half = 2 * away.abs() == below && away.signum() == exact.signum();
     counts.check("a reading is the nearest", near || half);
+}
+
+const ORDERED: &str = "a greater raw number never has a smaller reading";
+const DIFFERENT: &str = "up to scale 1000 different raw numbers have different readings";
+const SHARED: &str = "above scale 1000 two neighbours share a reading";
+
+/// Request L11, on this program's own readings.
+fn order(counts: &mut Counts, random: &mut Random, cases: usize) {
+    for _ in 0..cases * 1000 {
+        order_of_two(counts, random);
+    }
+    for e in ES {
+        for f in FS {
+            order_of_scale(counts, random, e, f);
+        }
+    }
+    for f in 1940..1965 {
+        order_of_all(counts, f);
+    }
+}
+
+/// From the first raw number's reading to the second's, if there are both.
+fn distance(first: i64, second: i64, e: i64, f: i64) -> Option<i128> {
+    Some(thousandths(second, e, f)? - thousandths(first, e, f)?)
+}
+
+fn keeps_order(step: &Option<i128>) -> bool {
+    step.is_some_and(|step| step >= 0)
+}
+
+/// Two raw numbers, near each other or far, with any scale or one near 1000.
+fn order_of_two(counts: &mut Counts, random: &mut Random) {
+    let (e, f) = match random.one_in(2) {
+        true => (random.between(0, 31), random.between(0, 2047)),
+        false => (25, random.between(1940, 1965)),
+    };
+    let less = random.between(-32768, 65534);
+    let farthest = random.pick(&[1, 4, 65535]);
+    let greater = random.between(less + 1, 65535.min(less + farthest));
+    let step = distance(less, greater, e, f);
+    counts.check(ORDERED, keeps_order(&step));
+    if scale_at_most_1000(e, f) {
+        counts.check(DIFFERENT, step != Some(0));
+    }
+}
+
+/// Every scale, with some neighbours: the ends, around zero and anywhere. All neighbours of
+/// all scales would take minutes.
+fn order_of_scale(counts: &mut Counts, random: &mut Random, e: i64, f: i64) {
+    // Scales ascend with the scaling value, and 1000 is that of E 25, F 1952.
+    let at_most_1000 = 2048 * e + f <= 53152;
+    counts.check("the bound", scale_at_most_1000(e, f) == at_most_1000);
+    let mut begins = vec![-32768, -10, 65515];
+    begins.extend([0; 20].map(|_| random.between(-32768, 65515)));
+    let lesser = begins.into_iter().flat_map(|begin| begin..begin + 20);
+    let steps: Vec<Option<i128>> = lesser.map(|raw| distance(raw, raw + 1, e, f)).collect();
+    counts.check(ORDERED, steps.iter().all(keeps_order));
+    if at_most_1000 {
+        counts.check(DIFFERENT, !steps.contains(&Some(0)));
+    }
+    if let Some(raw) = first_shared(e, f) {
+        let shared = [distance(raw, raw + 1, e, f), distance(-raw - 1, -raw, e, f)];
+        counts.check(SHARED, shared == [Some(0); 2]);
+    }
+    let found = first_shared(e, f).is_some();
+    counts.check("the bound of shared readings", found != at_most_1000);
+}
+
+/// All neighbours of a scale near 1000, with E 25.
+fn order_of_all(counts: &mut Counts, f: i64) {
+    let lesser = RAWS.filter(|raw| *raw < 65535);
+    let steps: Vec<Option<i128>> = lesser.map(|raw| distance(raw, raw + 1, 25, f)).collect();
+    counts.check(ORDERED, steps.iter().all(keeps_order));
+    let shared = steps.iter().filter(|step| **step == Some(0)).count();
+    match f {
+        ..1953 => counts.check(DIFFERENT, shared == 0),
+        // The loss is raw / 4001, a half more than a whole number at 4001 * (k + 1/2): for k
+        // to 15 that is up to 62015.5, and below zero for k to 7 down to -30007.5.
+        1953 => counts.check("24 neighbours share a reading", shared == 16 + 8),
+        _ => counts.check(SHARED, shared > 24),
+    }
 }

@@ -1,12 +1,18 @@
 //! Readings in thousandths, straight from the fraction of document 01:
 //! raw * 2^27 / ((2048 + F) * 2^E). The numbers are wide, so nothing overflows.
 
+use std::ops::RangeInclusive;
+
 use crate::record::Place;
+
+/// The raw numbers that have a reading, and the E and F.
+pub const RAWS: RangeInclusive<i64> = -32768..=65535;
+pub const ES: RangeInclusive<i64> = 0..=31;
+pub const FS: RangeInclusive<i64> = 0..=2047;
 
 /// Nothing where a number is outside its range (refusal 12).
 pub fn thousandths(raw: i64, e: i64, f: i64) -> Option<i128> {
-    let defined =
-        (-32768..=65535).contains(&raw) && (0..=31).contains(&e) && (0..=2047).contains(&f);
+    let defined = RAWS.contains(&raw) && ES.contains(&e) && FS.contains(&f);
     if !defined {
         return None;
     }
@@ -19,6 +25,23 @@ pub fn thousandths(raw: i64, e: i64, f: i64) -> Option<i128> {
 fn nearest(above: i128, below: i128) -> i128 {
     let size = (2 * above.abs() + below) / (2 * below);
     above.signum() * size
+}
+
+/// The scale is (2048 + F) * 2^E over 2^27. Scale 1000 over the same 2^27 is this.
+const THOUSAND: i64 = 1000 << 27;
+
+/// The bound of request L11, compared as a fraction of whole numbers.
+pub fn scale_at_most_1000(e: i64, f: i64) -> bool {
+    (2048 + f) << e <= THOUSAND
+}
+
+/// Above scale 1000 the exact reading is raw less a loss, raw * (scale - 1000) / scale. This is
+/// the greatest raw whose loss is at most a half, so that it reads as itself. The next one
+/// loses more than a half and reads as one less: the two share a reading, also with a minus.
+pub fn first_shared(e: i64, f: i64) -> Option<i64> {
+    let scale = (2048 + f) << e;
+    let above = scale - THOUSAND;
+    (above > 0).then(|| scale / (2 * above))
 }
 
 /// What one place of a point reads as.

@@ -53,11 +53,11 @@ size a e f =
     let n : 2 ^ 27 * (1000 * a) ≡ 2048 * (65536000 * a) = omega arith in
     rw n (most (65536000 * a) (denominator e f) d)
 
-below : (k m : ℕ) → m ≤ suc k → negsuc k ≤ℤ negℤ (pos m)
+pub below : (k m : ℕ) → m ≤ suc k → negsuc k ≤ℤ negℤ (pos m)
 below k zero h = record { le = tt }
 below k (suc m) h = record { le = le→leb m k (omega arith) }
 
-below-pos : (k m : ℕ) → negℤ (pos m) ≤ℤ pos k
+pub below-pos : (k m : ℕ) → negℤ (pos m) ≤ℤ pos k
 below-pos k zero = record { le = le→leb 0 k (omega arith) }
 below-pos k (suc m) = record { le = tt }
 

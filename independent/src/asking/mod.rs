@@ -6,6 +6,7 @@ mod joined;
 mod lines;
 mod long_records;
 mod long_writes;
+mod order;
 mod readings;
 mod records;
 mod templates;
@@ -18,7 +19,7 @@ use crate::random::Random;
 
 pub fn everything(comparison: &mut Comparison, seed: u64) {
     examples::ask_all(comparison);
-    let sorts: [fn(&mut Comparison, &mut Random); 10] = [
+    let sorts: [fn(&mut Comparison, &mut Random); 11] = [
         records::ask_all,
         damage::ask_all,
         joined::ask_all,
@@ -29,6 +30,7 @@ pub fn everything(comparison: &mut Comparison, seed: u64) {
         files::ask_all,
         long_records::ask_all,
         long_writes::ask_all,
+        order::ask_all,
     ];
     for (number, ask_all) in sorts.into_iter().enumerate() {
         // Each sort has a seed of its own, so that a change in one leaves the others.
