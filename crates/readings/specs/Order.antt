@@ -25,7 +25,7 @@ PlaceReadsAs scaling raw x = toldPlace (Present (Thousandths x)) ≡ placeReadin
 
 -- a greater raw number never has a smaller reading
 abbrev pub KeepsOrder : (reads : ℤ → ℤ → Type 0) → Type 0
-KeepsOrder reads = (raw greater x y : ℤ) → raw ≤ℤ greater → reads raw x → reads greater y → x ≤ℤ y
+KeepsOrder reads = (raw other x y : ℤ) → raw ≤ℤ other → reads raw x → reads other y → x ≤ℤ y
 
 -- different raw numbers have different readings
 abbrev pub KeepsApart : (reads : ℤ → ℤ → Type 0) → Type 0
@@ -37,7 +37,7 @@ KeepsApart reads = (raw other x y : ℤ) → raw ≢ other → reads raw x → r
 abbrev pub AtMostThousand : (e f : ℕ) → Type 0
 AtMostThousand e f = (2048 + f) * 2 ^ e ≤ 1000 * 2 ^ 27
 
--- E and F of a channel: of its scaling value, or 16 and 0 where it has none. By one below zero nothing is read, whatever its size says here
+-- E and F by which a channel is read: of its scaling value, or 16 and 0 where it has none. By one below zero nothing is read, so these may be any
 abbrev pub exponentBy : Attribute → ℕ
 exponentBy scaling = cond (scaling .given) (exponentOf (natAbs (scaling .number))) 16
 

@@ -94,7 +94,7 @@ answered e f raw x h = go (defined raw e f) h
     go false k = impossible (cc)
 
 pub to-thousandths-keeps-order : (e f : ℕ) → KeepsOrder (ReadsAs e f)
-to-thousandths-keeps-order e f raw greater x y h p q = rw (answered e f raw x p, answered e f greater y q) (order e f raw greater h)
+to-thousandths-keeps-order e f raw other x y h p q = rw (answered e f raw x p, answered e f other y q) (order e f raw other h)
 
 pub to-thousandths-keeps-apart : (e f : ℕ) → AtMostThousand e f → KeepsApart (ReadsAs e f)
 to-thousandths-keeps-apart e f fine raw other x y h p q t = h (one-raw e f fine raw other (sym (answered e f raw x p) ∙ t ∙ answered e f other y q))
@@ -114,8 +114,8 @@ by-one-scale scaling raw x h = go (scaling .given) (scaling .number) h
 
 module _ (scaling : Attribute) where
   pub place-thousandths-keeps-order : KeepsOrder (PlaceReadsAs scaling)
-  place-thousandths-keeps-order raw greater x y h p q =
-      to-thousandths-keeps-order (exponentBy scaling) (fractionBy scaling) raw greater x y h (by-one-scale scaling raw x p) (by-one-scale scaling greater y q)
+  place-thousandths-keeps-order raw other x y h p q =
+      to-thousandths-keeps-order (exponentBy scaling) (fractionBy scaling) raw other x y h (by-one-scale scaling raw x p) (by-one-scale scaling other y q)
 
   pub place-thousandths-keeps-apart : AtMostThousand (exponentBy scaling) (fractionBy scaling) → KeepsApart (PlaceReadsAs scaling)
   place-thousandths-keeps-apart fine raw other x y h p q =
