@@ -37,7 +37,7 @@ KeepsApart reads = (raw other x y : ℤ) → raw ≢ other → reads raw x → r
 abbrev pub AtMostThousand : (e f : ℕ) → Type 0
 AtMostThousand e f = (2048 + f) * 2 ^ e ≤ 1000 * 2 ^ 27
 
--- E and F by which a channel is read: of its scaling value, or 16 and 0 where it has none. By one below zero nothing is read, so these may be any
+-- E and F by which a channel is read: of its scaling value, or 16 and 0 where it has none. By one below zero nothing is read, whatever they are
 abbrev pub exponentBy : Attribute → ℕ
 exponentBy scaling = cond (scaling .given) (exponentOf (natAbs (scaling .number))) 16
 
