@@ -3,7 +3,9 @@ use mathlib.Core.Path.{_≡_}
 use mathlib.Core.Bool.{Bool}
 use Prim.Native.Nat.{ℕ, _≤_}
 use lib.IntN.{ℤ}
+use Rattle.formats.specs.Binary.{bit, binary}
 use Rattle.formats.specs.OneAnswer.{OneAnswer, named}
+use Rattle.channels.specs.Bits.{moved}
 use Rattle.channels.specs.Channel.{signs, signedOf, widthOf}
 use Rattle.channels.specs.Descriptors.{isStored}
 use Rattle.channels.specs.Stored.{valueOf, storedIf}
@@ -13,8 +15,14 @@ use Rattle.channels.specs.declared.Format.{Format}
 pub one-sign : (channel : ℕ) → OneAnswer (λ r. r ≡ signedOf channel)
 one-sign channel = named
 
-pub one-table : OneAnswer (λ r. r ≡ signs)
-one-table = named
+pub one-signs : OneAnswer (λ r. r ≡ binary signs)
+one-signs = named
+
+pub one-lead : (bits : ℕ) → OneAnswer (λ r. r ≡ bit 16 bits)
+one-lead bits = named
+
+pub one-behind : (bits : ℕ) → OneAnswer (λ r. r ≡ moved 1 bits)
+one-behind bits = named
 
 pub one-holding : (d : Descriptor) → OneAnswer (λ r. r ≡ isStored d)
 one-holding d = named

@@ -2,6 +2,8 @@
 ghost use mathlib.Core.Path.{_≡_};
 ghost use Prim.Native.Nat.{_^_, _≤_};
 ghost use lib.IntN.{pos};
+ghost use Rattle.formats.specs.Binary.{bit, binary};
+ghost use Rattle.channels.specs.Bits.{moved};
 ghost use Rattle.channels.specs.Channel.{signs, signedOf, widthOf};
 ghost use Rattle.channels.specs.Descriptors.{isStored};
 ghost use Rattle.channels.specs.Stored as stored;
@@ -93,38 +95,39 @@ pub fn width(format: Format) -> usize
     }
 }
 
-// Which channels are signed: X, Y, Z, VX, VY, AX, AY, T, DT, F, S, TX, TY, Az, El, R.
-const SIGNED: [bool; 16] = [
-    true,
-    true,
-    false,
-    true,
-    true,
-    true,
-    true,
-    false,
-    false,
-    false,
-    false,
-    true,
-    true,
-    false,
-    false,
-    false,
-];
+// Sixteen bits say something of each channel: the highest of X, the lowest of R, as the inclusion bytes have it (7.3.4.1).
+// Here they say which channels are signed (7.3.4.4): X, Y, VX, VY, AX, AY, TX and TY.
+const SIGNS: u16 = 0xDE18;
 
-// A channel past the table has no sign.
+// The signs as bits, for a loop over channels.
+pub fn signs() -> u16
+    ensures { λ r. ⌜ r ≡ binary signs ⌝ }
+{
+    SIGNS
+}
+
+// Whether the first channel's bit is set.
+pub fn leads(bits: u16) -> bool
+    ensures { λ r. ⌜ r ≡ bit 16 bits ⌝ }
+{
+    32768 <= bits
+}
+
+// The bits of the channels behind the first, each moved up by one: so a loop over channels looks at the highest bit alone.
+pub fn behind_first(bits: u16) -> u16
+    ensures { λ r. ⌜ r ≡ moved 1 bits ⌝ }
+{
+    bits << 1
+}
+
+// Whether a channel is signed. One past the sixteenth has no bit, and no sign.
 pub fn is_signed(channel: usize) -> bool
     ensures { λ r. ⌜ r ≡ signedOf channel ⌝ }
 {
-    if channel < 16 { SIGNED[channel] } else { false }
-}
-
-// The whole table, for a loop over channels: it is laid down once, and indexed for each number.
-pub fn signs() -> [bool; 16]
-    ensures { λ r. ⌜ r ≡ signs ⌝ }
-{
-    SIGNED
+    if 16 <= channel {
+        return false;
+    }
+    leads(signs() << channel)
 }
 
 // What is added to a number before it is stored.

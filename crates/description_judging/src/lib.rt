@@ -110,13 +110,14 @@ fn sound_descriptor(d: Descriptor, format: Format, signed: bool) -> bool
 fn is_sound(description: Description, format: Format) -> bool
     ensures { λ r. ⌜ r ≡ (tidy description && allFit (widthOf format) description) ⌝ }
 {
-    let signs = channels::signs();
+    let mut signs = channels::signs();
     let mut i: usize = 0;
     while i < 16 {
         let d = description.channels[i];
-        if !sound_descriptor(d, format, signs[i]) {
+        if !sound_descriptor(d, format, channels::leads(signs)) {
             return false;
         }
+        signs = channels::behind_first(signs);
         i += 1;
     }
     true

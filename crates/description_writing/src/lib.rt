@@ -155,12 +155,13 @@ fn put_description(out: &mut [u8], start: usize, description: Description, forma
     ensures { λ r. ⌜ Laid (now (out .entry)) start (encodeDescription (widthOf format) description) (now (out .exit)) r ⌝ }
 {
     let full = Format::Full;
-    let signs = channels::signs();
+    let mut signs = channels::signs();
     let mut at = stored_numbers::put_number(out, start, inclusion(description), full);
     let mut i: usize = 0;
     while i < 16 {
         let d = description.channels[i];
-        at = put_channel(out, at, d, signs[i], format);
+        at = put_channel(out, at, d, channels::leads(signs), format);
+        signs = channels::behind_first(signs);
         i += 1;
     }
     at

@@ -6,7 +6,7 @@ use Prim.Native.Nat.{ℕ, zero, suc, _+_, _-_, _*_, _/_, _%_, _^_, _<_}
 use native.Mathlib.Nat.{pow-suc, mod-lt, mod-eq-of-lt}
 use native.Mathlib.Omega.{arith}
 use lib.Dec.{eqb}
-use lib.ListN.{length}
+use lib.ListN.{length, getD}
 use lib.Pow.{mod-pow-add}
 use borrow.Author.Tests.{eqb-true, eqb-false}
 
@@ -30,6 +30,13 @@ pub length-bits : (n v : ℕ) → length (bits n v) ≡ n
 unfolding bits
 length-bits zero v = refl
 length-bits (suc n) v = ap suc (length-bits n v)
+
+-- each stands at its place
+pub nth-bit : (n v k : ℕ) → k < n → getD (bits n v) k false ≡ bit (n - k) v
+unfolding bits
+nth-bit zero v k h = absurd (omega arith)
+nth-bit (suc n) v zero h = ap (λ m. bit m v) (let e : suc n ≡ suc n - 0 = omega arith in e)
+nth-bit (suc n) v (suc k) h = nth-bit n v k (omega arith) ∙ ap (λ m. bit m v) (let e : n - k ≡ suc n - suc k = omega arith in e)
 
 pub binary-below : (bs : List Bool) → binary bs < 2 ^ length bs
 unfolding binary

@@ -19,7 +19,7 @@ use Rattle.refusals.specs.declared.Quantity.the-variants.{Value}
 use Rattle.refusals.specs.declared.Refusal.the-variants.{OutOfRange, Amount}
 use Rattle.refusals.specs.declared.Judgement.{Judgement}
 use Rattle.refusals.specs.declared.Judgement.the-variants.{Passed, Refused}
-use Rattle.channels.specs.Channel.{S, signs, signedOf}
+use Rattle.channels.specs.Channel.{S, signedOf}
 use Rattle.channels.specs.Stored.{fits, storedOf, storedIf}
 use Rattle.tip_switch.specs.Switch.{isState, byteOf, byteIf}
 use Rattle.channels.specs.declared.Stored.the-variants.{Number, Outside}
@@ -32,11 +32,6 @@ use Rattle.values.specs.declared.Order.the-variants.{Point, Column}
 use Rattle.points.proofs.Samples.{stored-in, stored-out, stored-none}
 
 -- ---- One number
-
--- the sign that a loop over channels is lent
-pub sign-lent : (l : List Bool) → l ≡ signs → (channel : ℕ) → getD l channel false ≡ signedOf channel
-unfolding signedOf
-sign-lent l e channel = ap (λ x. getD x channel false) e
 
 module _ (w channel : ℕ) (v : ℤ) where
   pub stored-switch : channel ≡ S → storedSample w channel v ≡ byteIf v

@@ -10,7 +10,7 @@ ghost use lib.Dec.{eqb};
 ghost use lib.ListN.{length};
 ghost use Rattle.formats.specs.Laid.{Room, Laid, Owed};
 ghost use Rattle.formats.specs.Lent.{writing};
-ghost use Rattle.channels.specs.Channel.{signs as signTable, widthOf};
+ghost use Rattle.channels.specs.Channel.{widthOf};
 ghost use Rattle.points.specs.Points.{sampleSize, channels as channelsOf};
 ghost use Rattle.values.specs.Values as lent;
 ghost use Rattle.values.specs.Values.{judgePoint, judgeFrom, judgementOf, storedSample, numberIn, sampleBytes, putOf};
@@ -68,15 +68,13 @@ fn stride_of(order: Order, count: usize) -> usize
 }
 
 // What is stored for a number of a channel, if anything is.
-// This and each that follows is lent the table of signs, which is laid down once and not once a number.
-fn stored_sample(format: Format, channel: usize, value: i32, signs: &[bool; 16]) -> Stored
-    requires { ⌜ (channel < 16) × (now signs ≡ signTable) ⌝ }
+fn stored_sample(format: Format, channel: usize, value: i32) -> Stored
     ensures { λ r. ⌜ r ≡ storedSample (widthOf format) channel value ⌝ }
 {
     if channel == channels::S {
         return tip_switch::byte_of(value);
     }
-    channels::stored_of(format, signs[channel], value)
+    channels::stored_of(format, channels::is_signed(channel), value)
 }
 
 // Whether each number of a point fits: the first that doesn't is named, by its index among the values and its channel (refusal 12).
@@ -87,9 +85,8 @@ fn judge_point(
     stride: usize,
     format: Format,
     stored: &[bool; 16],
-    signs: &[bool; 16],
 ) -> Judgement
-    requires { ⌜ (length (now stored) ≡ 16) × (now signs ≡ signTable) × (stride ≤ length (now values) + 1) × Inside (now values) stride (lent.size (now stored)) from ⌝ }
+    requires { ⌜ (length (now stored) ≡ 16) × (stride ≤ length (now values) + 1) × Inside (now values) stride (lent.size (now stored)) from ⌝ }
     ensures { λ r. ⌜ r ≡ judgePoint (widthOf format) stride (channelsOf (now (stored .entry))) (now (values .entry)) from ⌝ }
 {
     let mut index = from;
@@ -97,7 +94,7 @@ fn judge_point(
     while channel < 16 {
         if stored[channel] {
             let value = values[index];
-            match stored_sample(format, channel, value, signs) {
+            match stored_sample(format, channel, value) {
                 Stored::Number(_) => {}
                 Stored::Outside => {
                     return Judgement::Refused(Refusal::OutOfRange {
@@ -123,15 +120,14 @@ fn judge_from(
     stride: usize,
     format: Format,
     stored: &[bool; 16],
-    signs: &[bool; 16],
 ) -> Judgement
-    requires { ⌜ (length (now stored) ≡ 16) × (now signs ≡ signTable) × (stride ≤ length (now values) + 1) × (step ≤ 16) × (0 < lent.size (now stored)) × AllAt (Inside (now values) stride (lent.size (now stored))) step count 0 ⌝ }
+    requires { ⌜ (length (now stored) ≡ 16) × (stride ≤ length (now values) + 1) × (step ≤ 16) × (0 < lent.size (now stored)) × AllAt (Inside (now values) stride (lent.size (now stored))) step count 0 ⌝ }
     ensures { λ r. ⌜ r ≡ judgeFrom (widthOf format) stride (channelsOf (now (stored .entry))) (now (values .entry)) step count 0 ⌝ }
 {
     let mut from: usize = 0;
     let mut i: usize = 0;
     while i < count {
-        let judged = judge_point(values, from, stride, format, stored, signs);
+        let judged = judge_point(values, from, stride, format, stored);
         if let Judgement::Refused(_) = judged {
             return judged;
         }
@@ -160,8 +156,7 @@ pub fn judge(
     }
     let step = step_of(order, k);
     let stride = stride_of(order, count);
-    let signs = channels::signs();
-    judge_from(values, count, step, stride, format, &stored, &signs)
+    judge_from(values, count, step, stride, format, &stored)
 }
 
 // The stored number, and 0 where there is none.
@@ -186,18 +181,11 @@ fn sample_format(format: Format, channel: usize) -> Format
 
 // A number of a sample point is put, and where the next goes is answered, as by each function that follows.
 // It is handed the very bytes that it has: so the compiler sees that there is room.
-fn put_sample(
-    out: &mut [u8],
-    at: usize,
-    channel: usize,
-    value: i32,
-    format: Format,
-    signs: &[bool; 16],
-) -> usize
-    requires { ⌜ (channel < 16) × (now signs ≡ signTable) × Room (now out) at (sampleBytes (widthOf format) channel value) ⌝ }
+fn put_sample(out: &mut [u8], at: usize, channel: usize, value: i32, format: Format) -> usize
+    requires { ⌜ Room (now out) at (sampleBytes (widthOf format) channel value) ⌝ }
     ensures { λ r. ⌜ Laid (now (out .entry)) at (sampleBytes (widthOf format) channel value) (now (out .exit)) r ⌝ }
 {
-    let number = number_in(stored_sample(format, channel, value, signs));
+    let number = number_in(stored_sample(format, channel, value));
     let narrow = sample_format(format, channel);
     let end = at + channels::width(narrow);
     stored_numbers::put_number(&mut out[at..end], 0, number, narrow);
@@ -219,11 +207,10 @@ fn put_run(
     stride: usize,
     format: Format,
     stored: &[bool; 16],
-    signs: &[bool; 16],
     first: usize,
     last: usize,
 ) -> Run
-    requires { ⌜ (length (now stored) ≡ 16) × (now signs ≡ signTable) × (stride ≤ length (now values) + 1) × Inside (now values) stride (many (now stored) first) from × Room (now out) start (bytesLeft (widthOf format) stride (now stored) (now values) first from) × (first ≤ last) × (last ≤ 16) ⌝ }
+    requires { ⌜ (length (now stored) ≡ 16) × (stride ≤ length (now values) + 1) × Inside (now values) stride (many (now stored) first) from × Room (now out) start (bytesLeft (widthOf format) stride (now stored) (now values) first from) × (first ≤ last) × (last ≤ 16) ⌝ }
     ensures { λ r. ⌜ Inside (now (values .entry)) stride (many (now (stored .entry)) last) (r .index) × Owed (now (out .entry)) start (bytesLeft (widthOf format) stride (now (stored .entry)) (now (values .entry)) first from) (now (out .exit)) (r .at) (bytesLeft (widthOf format) stride (now (stored .entry)) (now (values .entry)) last (r .index)) ⌝ }
 {
     let mut at = start;
@@ -232,7 +219,7 @@ fn put_run(
     while channel < last {
         if stored[channel] {
             let value = values[index];
-            at = put_sample(out, at, channel, value, format, signs);
+            at = put_sample(out, at, channel, value, format);
             index += stride;
         }
         channel += 1;
@@ -253,9 +240,8 @@ fn put_point(
     stride: usize,
     format: Format,
     stored: &[bool; 16],
-    signs: &[bool; 16],
 ) -> usize
-    requires { ⌜ (length (now stored) ≡ 16) × (now signs ≡ signTable) × (stride ≤ length (now values) + 1) × Inside (now values) stride (lent.size (now stored)) from × Room (now out) start (pointBytes (widthOf format) stride (channelsOf (now stored)) (now values) from) ⌝ }
+    requires { ⌜ (length (now stored) ≡ 16) × (stride ≤ length (now values) + 1) × Inside (now values) stride (lent.size (now stored)) from × Room (now out) start (pointBytes (widthOf format) stride (channelsOf (now stored)) (now values) from) ⌝ }
     ensures { λ r. ⌜ Laid (now (out .entry)) start (pointBytes (widthOf format) stride (channelsOf (now (stored .entry))) (now (values .entry)) from) (now (out .exit)) r ⌝ }
 {
     let before = put_run(
@@ -266,7 +252,6 @@ fn put_point(
         stride,
         format,
         stored,
-        signs,
         0,
         channels::S,
     );
@@ -278,7 +263,6 @@ fn put_point(
         stride,
         format,
         stored,
-        signs,
         channels::S,
         channels::TX,
     );
@@ -290,7 +274,6 @@ fn put_point(
         stride,
         format,
         stored,
-        signs,
         channels::TX,
         16,
     );
@@ -307,16 +290,15 @@ fn put_from(
     stride: usize,
     format: Format,
     stored: &[bool; 16],
-    signs: &[bool; 16],
 ) -> usize
-    requires { ⌜ (length (now stored) ≡ 16) × (now signs ≡ signTable) × (stride ≤ length (now values) + 1) × (step ≤ 16) × (0 < lent.size (now stored)) × AllAt (Inside (now values) stride (lent.size (now stored))) step count 0 × Room (now out) start (pointsBytes (widthOf format) stride (channelsOf (now stored)) (now values) step count 0) ⌝ }
+    requires { ⌜ (length (now stored) ≡ 16) × (stride ≤ length (now values) + 1) × (step ≤ 16) × (0 < lent.size (now stored)) × AllAt (Inside (now values) stride (lent.size (now stored))) step count 0 × Room (now out) start (pointsBytes (widthOf format) stride (channelsOf (now stored)) (now values) step count 0) ⌝ }
     ensures { λ r. ⌜ Laid (now (out .entry)) start (pointsBytes (widthOf format) stride (channelsOf (now (stored .entry))) (now (values .entry)) step count 0) (now (out .exit)) r ⌝ }
 {
     let mut at = start;
     let mut from: usize = 0;
     let mut i: usize = 0;
     while i < count {
-        at = put_point(out, at, values, from, stride, format, stored, signs);
+        at = put_point(out, at, values, from, stride, format, stored);
         from += step;
         i += 1;
     }
@@ -352,16 +334,5 @@ pub fn put(
     }
     let step = step_of(order, k);
     let stride = stride_of(order, count);
-    let signs = channels::signs();
-    put_from(
-        out,
-        at,
-        values,
-        count,
-        step,
-        stride,
-        format,
-        &stored,
-        &signs,
-    )
+    put_from(out, at, values, count, step, stride, format, &stored)
 }

@@ -10,12 +10,12 @@ use borrow.Author.Needs.{needs}
 use lib.ListN.{replicate, set}
 use Rattle.formats.specs.Reader.{readAt}
 use Rattle.formats.specs.Told.{told-done}
+use Rattle.channels.specs.BitLaws.{Moved, moved-none, moved-first, moved-on, moved-out}
 use Rattle.channels.specs.Channel.{widthOf}
 use Rattle.channels.specs.declared.Descriptor.{Descriptor}
 use Rattle.channels.specs.Descriptors.{absent}
 use Rattle.descriptions.specs.Description.{includes, description}
 use Rattle.descriptions.specs.Read.{described, undescribed, measured, channelsFrom, descriptorSize}
-use Rattle.descriptions.proofs.Bits.{Moved, moved-none, moved-first, moved-on, moved-out}
 use Rattle.descriptions.proofs.Measuring.{descriptor-whole, descriptor-flags}
 use Rattle.descriptions.proofs.Reading.{Gone, gone-none, gone-absent, gone-on, gone-failed, gone-all, gone-out, behind-done, behind-failed}
 use Rattle.descriptions.proofs.measure.Statement.{statement}
@@ -43,6 +43,7 @@ module _ (k : tie.After-outcome Inv-loop μ-loop) where
 -- a channel that is included
 included : (d : tie.After-descriptor-end Inv-loop μ-loop) → let i = d .before .before in
     includes (inclusion (i .before .before .before .before) .inclusion-at .result .bits) (i .before .before .loop .channel) ≡ true
+unfolding includes
 included d =
     let i = d .before .before in
     sym (moved-first (i .before .before .loop .inv .3) (i .before .loop-test .taken)) ∙ sym (i .leads .ensures) ∙ d .before .if1 .taken
@@ -66,7 +67,7 @@ returns c =
     c .unmeasured .ensures ∙ ap undescribed (behind-failed _ (m .enum-told .given .1) (m .before .before .inclusion-at .ensures _))
 
 loop-holds : tie.Need-loop-holds Inv-loop μ-loop
-loop-holds c = (omega arith, replicate 16 absent, gone-none _ _ _ _, moved-none _)
+loop-holds c = (omega arith, replicate 16 absent, gone-none _ _ _ _, moved-none _ (search needs))
 
 leads-requires : tie.Need-leads-requires Inv-loop μ-loop
 leads-requires c κs = search needs
@@ -116,6 +117,7 @@ loop-less : tie.Need-loop-less Inv-loop μ-loop
 loop-less c = search needs
 
 loop-again : tie.Need-loop-again Inv-loop μ-loop
+unfolding includes
 loop-again c =
     let j = c .before in
     let i = j .before in
@@ -145,7 +147,7 @@ returns-3 c =
     ap undescribed (gone-all _ _ _ _ _ _ _ _ _ (l .loop .inv .2) (c .loop-test .left) ∙ ap described (sym (whole (l .before .before))))
 
 returns-4 : tie.Need-returns-4 Inv-loop μ-loop
-unfolding measured
+unfolding measured includes
 returns-4 c =
     let t = c .before .before .before in
     let l = t .before in

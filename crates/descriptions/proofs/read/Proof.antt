@@ -1,29 +1,29 @@
 -- `descriptions::read` meets its contract. The invariant: the arrays have the descriptors of the channels so far and their flags, and say nothing of those left.
 -- The measure is the number of channels left.
 use mathlib.Core.Path.{_≡_, refl, sym, ap, _∙_}
-use mathlib.Core.Bool.{true, false}
+use mathlib.Core.Bool.{true}
 use mathlib.Core.Logic.{⊎-elim}
 use Prim.Native.Nat.{ℕ, _≤_, _-_}
 use native.Mathlib.Omega.{arith}
 use borrow.Author.Needs.{needs}
-use lib.ListN.{getD}
+use Rattle.formats.specs.Binary.{binary}
 use Rattle.formats.specs.Reader.{ok, readAt}
 use Rattle.formats.specs.declared.Outcome.the-variants.{Done}
-use Rattle.channels.specs.Channel.{widthOf, signedOf}
+use Rattle.channels.specs.BitLaws.{Moved, moved-none, moved-first, moved-on, moved-out, signs-none, sign-first}
+use Rattle.channels.specs.Channel.{signs as signTable, widthOf}
 use Rattle.descriptions.specs.Description.{includes, description}
 use Rattle.descriptions.specs.Read.{nothing, described, channelsFrom}
-use Rattle.descriptions.proofs.Bits.{Moved, moved-none, moved-first, moved-on, moved-out}
 use Rattle.descriptions.proofs.Measuring.{Whole, descriptor-whole}
 use Rattle.descriptions.proofs.Reading.{Gone, gone-none, gone-absent, gone-on, gone-failed, gone-all, gone-out, behind-done, behind-failed}
 use Rattle.descriptions.proofs.read.Statement.{statement}
 use Rattle.descriptions.proofs.read.Tie as tie
 
 abbrev Inv-loop : tie.InvT-loop
-Inv-loop s start format descriptors₀ included₀ stored₀ outcome₀ first signs bits₀ at₀ channel₀ descriptors included stored outcome bits at channel =
-    (channel ≤ 16) × Gone (widthOf format) bits₀ s first descriptors included stored channel at × (outcome ≡ Done at) × Moved bits₀ bits channel
+Inv-loop s start format descriptors₀ included₀ stored₀ outcome₀ first signs₀ bits₀ at₀ channel₀ descriptors included stored outcome signs bits at channel =
+    (channel ≤ 16) × Gone (widthOf format) bits₀ s first descriptors included stored channel at × (outcome ≡ Done at) × Moved bits₀ bits channel × Moved (binary signTable) signs channel
 
 abbrev μ-loop : tie.MeasureT-loop
-μ-loop s start format descriptors₀ included₀ stored₀ outcome₀ first signs bits₀ at₀ channel₀ descriptors included stored outcome bits at channel =
+μ-loop s start format descriptors₀ included₀ stored₀ outcome₀ first signs₀ bits₀ at₀ channel₀ descriptors included stored outcome signs bits at channel =
     16 - channel
 
 -- what the whole answers, behind the inclusion bytes
@@ -41,6 +41,7 @@ module _ (k : tie.After-outcome Inv-loop μ-loop) where
 -- a channel that is included
 included : (d : tie.After-descriptor-end Inv-loop μ-loop) → let i = d .before .before in
     includes (inclusion (i .before .before .before .before .before) .inclusion-at .result .bits) (i .before .before .loop .channel) ≡ true
+unfolding includes
 included d =
     let i = d .before .before in
     sym (moved-first (i .before .before .loop .inv .3) (i .before .loop-test .taken)) ∙ sym (i .leads .ensures) ∙ d .before .if1 .taken
@@ -62,7 +63,7 @@ signs-requires : tie.Need-signs-requires Inv-loop μ-loop
 signs-requires c κs = search needs
 
 loop-holds : tie.Need-loop-holds Inv-loop μ-loop
-loop-holds c = (omega arith, gone-none _ _ _ _, refl, moved-none _)
+loop-holds c = (omega arith, gone-none _ _ _ _, refl, moved-none _ (search needs), signs-none (c .signs .ensures))
 
 leads-requires : tie.Need-leads-requires Inv-loop μ-loop
 leads-requires c κs = search needs
@@ -76,11 +77,11 @@ enum-known-outcome-2 c = search needs
 enum-told : tie.Need-enum-told Inv-loop μ-loop
 enum-told c = search needs
 
-array-read-descriptor-at : tie.Need-array-read-descriptor-at Inv-loop μ-loop
-array-read-descriptor-at c = search needs
+leads-requires-2 : tie.Need-leads-requires-2 Inv-loop μ-loop
+leads-requires-2 c κs = search needs
 
 descriptor-at-requires : tie.Need-descriptor-at-requires Inv-loop μ-loop
-descriptor-at-requires c κs = let x = there (c .before) 0 in (x .there, x .admitted)
+descriptor-at-requires c κs = let x = there (c .before .before) 0 in (x .there, x .admitted)
 
 mul-descriptors : tie.Need-mul-descriptors Inv-loop μ-loop
 mul-descriptors c = search needs
@@ -100,6 +101,9 @@ array-write-stored c = search needs
 behind-first-requires : tie.Need-behind-first-requires Inv-loop μ-loop
 behind-first-requires c κs = search needs
 
+behind-first-requires-2 : tie.Need-behind-first-requires-2 Inv-loop μ-loop
+behind-first-requires-2 c κs = search needs
+
 add-channel : tie.Need-add-channel Inv-loop μ-loop
 add-channel c = search needs
 
@@ -107,28 +111,31 @@ loop-less : tie.Need-loop-less Inv-loop μ-loop
 loop-less c = search needs
 
 loop-again : tie.Need-loop-again Inv-loop μ-loop
-unfolding signedOf
+unfolding includes
 loop-again c =
-    let j = c .before in
+    let b = c .before in
+    let j = b .before in
     let i = j .before in
     let t = i .before in
-    let moved = moved-on (t .before .loop .inv .3) (c .behind-first .ensures) in
     let l = t .before .loop in
+    let moved = moved-on (l .inv .3) (b .behind-first .ensures) in
+    let signed = moved-on (l .inv .4) (c .behind-first2 .ensures) in
     ⊎-elim
     (λ w.
     let d : tie.After-descriptor-end Inv-loop μ-loop = record { before = record { before = i; if1 = w .0 }; descriptor-end = w .1 } in
     let e : tie.After-outcome2 Inv-loop μ-loop = record { before = record { before = d; match2 = w .2 }; outcome2 = w .3 } in
-    let sign = ap (λ x. getD x (l .channel) false) (t .before .before .signs .ensures) in
-    let f = w .5 .ensures (l .channel) sign ∙ ap (ok (w .5 .result)) (sym (there e (l .channel) .end)) in
-    rw (w .7, w .8, w .9, w .10, w .11) (
+    let sign = w .5 .ensures ∙ sign-first (l .inv .4) (t .loop-test .taken) in
+    let f = w .6 .ensures (l .channel) sign ∙ ap (ok (w .6 .result)) (sym (there e (l .channel) .end)) in
+    rw (w .8, w .9, w .10, w .11, w .12) (
       omega arith,
-      gone-on _ _ _ _ _ _ _ _ _ (l .inv .1) (t .loop-test .taken) (included d) f refl (w .6 .ensures),
+      gone-on _ _ _ _ _ _ _ _ _ (l .inv .1) (t .loop-test .taken) (included d) f refl (w .7 .ensures),
       refl,
       moved,
+      signed,
     ))
     (λ w.
     rw (w .2, w .3, w .4, w .5, w .6)
-    (omega arith, gone-absent _ _ _ _ _ _ _ _ _ (l .inv .1) (t .loop-test .taken) (sym (moved-first (l .inv .3) (t .loop-test .taken)) ∙ sym (i .leads .ensures) ∙ w .0 .left), l .inv .2, moved))
+    (omega arith, gone-absent _ _ _ _ _ _ _ _ _ (l .inv .1) (t .loop-test .taken) (sym (moved-first (l .inv .3) (t .loop-test .taken)) ∙ sym (i .leads .ensures) ∙ w .0 .left), l .inv .2, moved, signed))
     (j .if1 .came)
 
 enum-told-2 : tie.Need-enum-told-2 Inv-loop μ-loop
@@ -149,6 +156,7 @@ returns-2 c =
     ∙ ap described (sym (whole (l .before .before .before)))
 
 returns-3 : tie.Need-returns-3 Inv-loop μ-loop
+unfolding includes
 returns-3 c =
     let t = c .before .before .before in
     let l = t .before in
@@ -173,7 +181,7 @@ read-spec =
     descriptor-end-requires
     enum-known-outcome-2
     enum-told
-    array-read-descriptor-at
+    leads-requires-2
     descriptor-at-requires
     mul-descriptors
     array-set-from-descriptors
@@ -181,6 +189,7 @@ read-spec =
     is-stored-requires
     array-write-stored
     behind-first-requires
+    behind-first-requires-2
     add-channel
     loop-less
     loop-again

@@ -37,9 +37,6 @@ step-of-requires c κs = search needs
 stride-of-requires : tie.Need-stride-of-requires
 stride-of-requires c κs = search needs
 
-signs-requires : tie.Need-signs-requires
-signs-requires c κs = search needs
-
 -- the numbers are among the values
 module _ (c : tie.After-stride-of) where
   abbrev start : tie.Start
@@ -56,12 +53,12 @@ module _ (c : tie.After-stride-of) where
 
 judge-from-requires : tie.Need-judge-from-requires
 judge-from-requires c κs =
-    let t = taken (c .before .before .before) in
-    (search needs, c .before .before .signs .ensures, t .stride, t .step, t .some, t .inside)
+    let t = taken (c .before) in
+    (search needs, t .stride, t .step, t .some, t .inside)
 
 returns-3 : tie.Need-returns-3
 returns-3 c =
-    let d = c .before .before .before .before in
+    let d = c .before .before in
     let a = start d .args in
     c .judge-from .ensures
     ∙ rw (d .stride-of .ensures, d .before .step-of .ensures, measured d .size .ensures .0) (sym (same-amount (widthOf (a .format)) (a .t4) (a .order) (a .count) (a .values .now) (same d)))
@@ -76,6 +73,5 @@ judge-spec =
     returns-2
     step-of-requires
     stride-of-requires
-    signs-requires
     judge-from-requires
     returns-3)

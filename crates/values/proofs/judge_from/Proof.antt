@@ -16,15 +16,15 @@ use Rattle.values.proofs.judge_from.Statement.{statement}
 use Rattle.values.proofs.judge_from.Tie as tie
 
 abbrev Inv-loop : tie.InvT-loop
-Inv-loop values count step stride format stored signs from₀ i₀ from i =
+Inv-loop values count step stride format stored from₀ i₀ from i =
     (i ≤ count) × AllAt (Inside values stride (size stored)) step (count - i) from
     × (judgeFrom (widthOf format) stride (channels stored) values step count 0 ≡ judgeFrom (widthOf format) stride (channels stored) values step (count - i) from)
 
 abbrev μ-loop : tie.MeasureT-loop
-μ-loop values count step stride format stored signs from₀ i₀ from i = count - i
+μ-loop values count step stride format stored from₀ i₀ from i = count - i
 
 loop-holds : tie.Need-loop-holds Inv-loop μ-loop
-loop-holds c = (omega arith, simp sub-zero (c .pre .5), simp sub-zero)
+loop-holds c = (omega arith, simp sub-zero (c .pre .4), simp sub-zero)
 
 -- the next point's numbers are among the values
 module _ (c : tie.In-loop Inv-loop μ-loop) where
@@ -41,7 +41,7 @@ module _ (c : tie.In-loop Inv-loop μ-loop) where
   rest = all-next (Inside (start .args .values .now) (start .args .stride) (size (start .args .stored .now))) (start .args .step) _ _ (c .before .loop .from) (c .before .loop .inv .1) one-more
 
   there : c .before .loop .from < length (start .args .values .now)
-  there = all-first (λ i. i < length (start .args .values .now)) (start .args .stride) (size (start .args .stored .now)) (size (start .args .stored .now) - 1) (c .before .loop .from) inside (omega (arith, c .before .before .pre .4))
+  there = all-first (λ i. i < length (start .args .values .now)) (start .args .stride) (size (start .args .stored .now)) (size (start .args .stored .now) - 1) (c .before .loop .from) inside (omega (arith, c .before .before .pre .3))
 
   abbrev here : Judgement
   here = judgePoint (widthOf (start .args .format)) (start .args .stride) (channels (start .args .stored .now)) (start .args .values .now) (c .before .loop .from)
@@ -53,7 +53,7 @@ module _ (c : tie.In-loop Inv-loop μ-loop) where
   judged e = c .before .loop .inv .2 ∙ next-judged _ _ _ _ _ (start .args .count) (c .before .loop .i) _ (c .loop-test .taken) ∙ ap (λ f. orElse f later) e
 
 judge-point-requires : tie.Need-judge-point-requires Inv-loop μ-loop
-judge-point-requires c κs = let s = c .before .before in (s .pre .0, s .pre .1, s .pre .2, inside c)
+judge-point-requires c κs = let s = c .before .before in (s .pre .0, s .pre .1, inside c)
 
 enum-told : tie.Need-enum-told Inv-loop μ-loop
 enum-told c = search needs

@@ -22,19 +22,19 @@ use Rattle.values.proofs.judge_point.Statement.{statement}
 use Rattle.values.proofs.judge_point.Tie as tie
 
 abbrev Inv-loop : tie.InvT-loop
-Inv-loop values from stride format stored signs index₀ channel₀ index channel =
+Inv-loop values from stride format stored index₀ channel₀ index channel =
     (channel ≤ 16) × Inside values stride (many stored channel) index
     × (judgePoint (widthOf format) stride (channels stored) values from ≡ judgeLeft (widthOf format) stride stored values channel index)
 
 abbrev μ-loop : tie.MeasureT-loop
-μ-loop values from stride format stored signs index₀ channel₀ index channel = 16 - channel
+μ-loop values from stride format stored index₀ channel₀ index channel = 16 - channel
 
 sixteen : (s : tie.Start Inv-loop μ-loop) → length (s .args .stored .now) ≡ 16
 sixteen s = s .pre .0
 
 loop-holds : tie.Need-loop-holds Inv-loop μ-loop
 unfolding many judgeLeft channels
-loop-holds c = (omega arith, c .pre .3, refl)
+loop-holds c = (omega arith, c .pre .2, refl)
 
 element-copy-out-if1 : tie.Need-element-copy-out-if1 Inv-loop μ-loop
 element-copy-out-if1 c = search needs
@@ -84,7 +84,7 @@ shared-slice-copy-out-value : tie.Need-shared-slice-copy-out-value Inv-loop μ-l
 shared-slice-copy-out-value c = there c
 
 stored-sample-requires : tie.Need-stored-sample-requires Inv-loop μ-loop
-stored-sample-requires c κs = (omega arith, turn (c .before) .before .pre .1)
+stored-sample-requires c κs = search needs
 
 enum-told : tie.Need-enum-told Inv-loop μ-loop
 enum-told c = search needs

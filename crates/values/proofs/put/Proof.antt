@@ -82,9 +82,6 @@ step-of-requires c κs = search needs
 stride-of-requires : tie.Need-stride-of-requires
 stride-of-requires c κs = search needs
 
-signs-requires : tie.Need-signs-requires
-signs-requires c κs = search needs
-
 -- the numbers are among the values
 module _ (c : tie.After-stride-of) where
   abbrev roomed : tie.Else3
@@ -111,9 +108,9 @@ sixteen s = search needs
 
 put-from-requires : tie.Need-put-from-requires
 put-from-requires c κs =
-    let d = c .before .before .before .before in
+    let d = c .before .before in
     let t = taken d in
-    (sixteen (start (roomed d)), c .before .before .before .signs .ensures, t .stride, t .step, t .some, t .inside, rw (bytes d) (all-room _ _ _ _ _ _ _ (same (fit d)) (room (roomed d))))
+    (sixteen (start (roomed d)), t .stride, t .step, t .some, t .inside, rw (bytes d) (all-room _ _ _ _ _ _ _ (same (fit d)) (room (roomed d))))
 
 same-length : tie.Need-same-length
 same-length c = search needs
@@ -121,7 +118,7 @@ same-length c = search needs
 returns-5 : tie.Need-returns-5
 returns-5 c =
     let p = c .before .before in
-    let d = p .before .before .before .before .before in
+    let d = p .before .before .before in
     put-all _ _ _ _ _ _ _ (same (fit d)) (room (roomed d)) (rw (bytes d) at (p .put-from .ensures))
 
 pub put-spec : {M : Type 1} → statement M
@@ -139,7 +136,6 @@ put-spec =
     returns-4
     step-of-requires
     stride-of-requires
-    signs-requires
     put-from-requires
     same-length
     returns-5)

@@ -15,15 +15,15 @@ use Rattle.values.proofs.put_from.Statement.{statement}
 use Rattle.values.proofs.put_from.Tie as tie
 
 abbrev Inv-loop : tie.InvT-loop
-Inv-loop out₀ start values count step stride format stored signs at₀ from₀ i₀ out at from i =
+Inv-loop out₀ start values count step stride format stored at₀ from₀ i₀ out at from i =
     (i ≤ count) × AllAt (Inside values stride (size stored)) step (count - i) from
     × Owed out₀ start (pointsBytes (widthOf format) stride (channels stored) values step count 0) out at (pointsBytes (widthOf format) stride (channels stored) values step (count - i) from)
 
 abbrev μ-loop : tie.MeasureT-loop
-μ-loop out₀ start values count step stride format stored signs at₀ from₀ i₀ out at from i = count - i
+μ-loop out₀ start values count step stride format stored at₀ from₀ i₀ out at from i = count - i
 
 loop-holds : tie.Need-loop-holds Inv-loop μ-loop
-loop-holds c = (omega arith, simp sub-zero (c .before .pre .5), simp sub-zero (owed-all _ _ _))
+loop-holds c = (omega arith, simp sub-zero (c .before .pre .4), simp sub-zero (owed-all _ _ _))
 
 -- the next point's numbers are among the values, and its bytes come next
 module _ (c : tie.In-loop Inv-loop μ-loop) where
@@ -40,7 +40,7 @@ module _ (c : tie.In-loop Inv-loop μ-loop) where
   rest = all-next (Inside (start .args .values .now) (start .args .stride) (size (start .args .stored .now))) (start .args .step) _ _ (c .before .loop .from) (c .before .loop .inv .1) one-more
 
   there : c .before .loop .from < length (start .args .values .now)
-  there = all-first (λ i. i < length (start .args .values .now)) (start .args .stride) (size (start .args .stored .now)) (size (start .args .stored .now) - 1) (c .before .loop .from) inside (omega (arith, c .before .before .before .pre .4))
+  there = all-first (λ i. i < length (start .args .values .now)) (start .args .stride) (size (start .args .stored .now)) (size (start .args .stored .now) - 1) (c .before .loop .from) inside (omega (arith, c .before .before .before .pre .3))
 
   owed : Owed
       (start .args .out .now)
@@ -56,7 +56,7 @@ put-point-requires : tie.Need-put-point-requires Inv-loop μ-loop
 put-point-requires c κs =
     let l = c .before in
     let s = l .before .before .before in
-    (s .pre .0, s .pre .1, s .pre .2, inside l, room-first _ _ (owed-room (owed l) (s .pre .6)))
+    (s .pre .0, s .pre .1, inside l, room-first _ _ (owed-room (owed l) (s .pre .5)))
 
 add-from : tie.Need-add-from Inv-loop μ-loop
 add-from c = let h = there (c .before .before .before .before) in record { fits = omega arith }

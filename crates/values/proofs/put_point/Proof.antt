@@ -1,5 +1,5 @@
 -- `values::put_point` meets its contract: what is left behind one run of channels is what is left before the next, and behind the last there is nothing.
-use Rattle.formats.specs.Laid.{Owed, owed-none, owed-room}
+use Rattle.formats.specs.Laid.{owed-none, owed-room}
 use native.Mathlib.Omega.{arith}
 use Rattle.channels.specs.Channel.{widthOf}
 use Rattle.points.specs.Points.{channels}
@@ -11,14 +11,14 @@ use Rattle.values.proofs.put_point.Tie as tie
 
 put-run-requires : tie.Need-put-run-requires
 unfolding many bytesLeft channels
-put-run-requires c κs = let p = c .before .before .pre in (p .0, p .1, p .2, p .3, p .4, omega arith, omega arith)
+put-run-requires c κs = let p = c .before .before .pre in (p .0, p .1, p .2, p .3, omega arith, omega arith)
 
 put-run-requires-2 : tie.Need-put-run-requires-2
 unfolding many bytesLeft channels
 put-run-requires-2 c κs =
     let r = c .before .before .before in
     let p = r .before .before .before .pre in
-    (p .0, p .1, p .2, r .put-run .ensures .0, owed-room (r .put-run .ensures .1) (p .4), omega arith, omega arith)
+    (p .0, p .1, r .put-run .ensures .0, owed-room (r .put-run .ensures .1) (p .3), omega arith, omega arith)
 
 put-run-requires-3 : tie.Need-put-run-requires-3
 unfolding many bytesLeft channels
@@ -26,7 +26,7 @@ put-run-requires-3 c κs =
     let q = c .before .before .before in
     let r = q .before .before .before .before in
     let p = r .before .before .before .pre in
-    (p .0, p .1, p .2, q .put-run2 .ensures .0, owed-room (owed-run (r .put-run .ensures .1) (q .put-run2 .ensures .1)) (p .4), omega arith, omega arith)
+    (p .0, p .1, q .put-run2 .ensures .0, owed-room (owed-run (r .put-run .ensures .1) (q .put-run2 .ensures .1)) (p .3), omega arith, omega arith)
 
 same-length : tie.Need-same-length
 same-length c = search needs

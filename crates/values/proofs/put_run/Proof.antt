@@ -20,19 +20,19 @@ use Rattle.values.proofs.put_run.Statement.{statement}
 use Rattle.values.proofs.put_run.Tie as tie
 
 abbrev Inv-loop : tie.InvT-loop
-Inv-loop out₀ start values from stride format stored signs first last at₀ index₀ channel₀ out at index channel =
+Inv-loop out₀ start values from stride format stored first last at₀ index₀ channel₀ out at index channel =
     (channel ≤ last) × Inside values stride (many stored channel) index
     × Owed out₀ start (bytesLeft (widthOf format) stride stored values first from) out at (bytesLeft (widthOf format) stride stored values channel index)
 
 abbrev μ-loop : tie.MeasureT-loop
-μ-loop out₀ start values from stride format stored signs first last at₀ index₀ channel₀ out at index channel =
+μ-loop out₀ start values from stride format stored first last at₀ index₀ channel₀ out at index channel =
     last - channel
 
 sixteen : (s : tie.Start Inv-loop μ-loop) → length (s .args .stored .now) ≡ 16
 sixteen s = s .pre .0
 
 loop-holds : tie.Need-loop-holds Inv-loop μ-loop
-loop-holds c = (c .before .pre .5, c .before .pre .3, owed-all _ _ _)
+loop-holds c = (c .before .pre .4, c .before .pre .2, owed-all _ _ _)
 
 element-copy-out-if1 : tie.Need-element-copy-out-if1 Inv-loop μ-loop
 element-copy-out-if1 c = search needs
@@ -61,7 +61,7 @@ module _ (c : tie.Then1 Inv-loop μ-loop) where
   index = turn .loop .index
 
   within : channel < length stored
-  within = omega (arith, sixteen (turn .before .before), turn .before .before .pre .6)
+  within = omega (arith, sixteen (turn .before .before), turn .before .before .pre .5)
 
   one-more : many stored channel ≡ 1 + many stored (channel + 1)
   one-more = many-in stored channel within (c .if1 .taken)
@@ -94,7 +94,7 @@ shared-slice-copy-out-value c = there c
 put-sample-requires : tie.Need-put-sample-requires Inv-loop μ-loop
 put-sample-requires c κs =
     let t = c .before .before in
-    rw (read (c .before)) (omega arith, turn t .before .before .pre .1, room-first _ _ (owed-room (owed t) (turn t .before .before .pre .4)))
+    rw (read (c .before)) (room-first _ _ (owed-room (owed t) (turn t .before .before .pre .3)))
 
 add-index : tie.Need-add-index Inv-loop μ-loop
 add-index c = let h = there (c .before .before .before .before .before) in record { fits = omega arith }
@@ -116,7 +116,7 @@ loop-again c =
     let laid = rw (read (record { before = t; value = x .1 })) at (x .3 .ensures) in
     rw (x .6, x .7, x .8) (omega arith, rest t, owed-next (owed t) laid))
     (λ x.
-    let h : l .loop .channel < length (a .stored .now) = omega (arith, sixteen (l .before .before), l .before .before .pre .6) in
+    let h : l .loop .channel < length (a .stored .now) = omega (arith, sixteen (l .before .before), l .before .before .pre .5) in
     let e = x .0 .left in
     rw (x .1, x .2, x .3) (
       omega arith,

@@ -52,7 +52,7 @@ module _ (c : tie.After-width) where
   bytes = ap (digits size) (sym number)
 
   room : start .args .at + size ≤ length (start .args .out .now)
-  room = omega (arith, start .pre .2 .enough, ap length bytes, length-digits size (found .number-in .result))
+  room = omega (arith, start .pre .enough, ap length bytes, length-digits size (found .number-in .result))
 
 add-end : tie.Need-add-end
 add-end c = omega (arith, room c, sized c)
