@@ -62,9 +62,12 @@ sign-bit : (channel : ℕ) → channel < 16 → bit (16 - channel) (binary signs
 unfolding signedOf
 sign-bit channel h = sym (nth-bit 16 (binary signs) channel h) ∙ ap (λ l. getD l channel false) (bits-binary signs)
 
--- before the first channel, all of them are left
-pub signs-none : {number : ℕ} → number ≡ binary signs → Moved (binary signs) number 0
+-- what a loop over channels has left of them
+abbrev pub SignsLeft : (left channel : ℕ) → Type 0
+SignsLeft = Moved (binary signs)
+
+pub signs-none : {number : ℕ} → number ≡ binary signs → SignsLeft number 0
 signs-none e = rw e (moved-none (binary signs) (binary-below signs))
 
-pub sign-first : {left channel : ℕ} → Moved (binary signs) left channel → channel < 16 → bit 16 left ≡ signedOf channel
+pub sign-first : {left channel : ℕ} → SignsLeft left channel → channel < 16 → bit 16 left ≡ signedOf channel
 sign-first {channel} m h = moved-first m h ∙ sign-bit channel h

@@ -1,4 +1,4 @@
--- `description_judging::is_sound` meets its contract. The invariant: all are sound where those from here on are. The measure is the number of channels left.
+-- `description_judging::is_sound` meets its contract. The invariant: all are sound where those from here on are, and the highest bit of the signs is this channel's. The measure is the number of channels left.
 use mathlib.Core.Path.{_≡_, sym, _∙_}
 use mathlib.Core.Bool.{Bool, _&&_}
 use Prim.Native.Nat.{ℕ, _≤_, _-_}
@@ -6,9 +6,8 @@ use native.Mathlib.Omega.{arith}
 use borrow.Author.Needs.{needs}
 use borrow.Author.Tests.{not-true, not-false}
 use lib.ListN.{length, drop, getD, length-map}
-use Rattle.formats.specs.Binary.{binary}
-use Rattle.channels.specs.BitLaws.{Moved, moved-on, signs-none, sign-first}
-use Rattle.channels.specs.Channel.{signs as signTable, widthOf}
+use Rattle.channels.specs.BitLaws.{SignsLeft, moved-on, signs-none, sign-first}
+use Rattle.channels.specs.Channel.{widthOf}
 use Rattle.channels.specs.declared.Descriptor.{Descriptor}
 use Rattle.channels.specs.Descriptors.{absent}
 use Rattle.descriptions.specs.Description.{tidyDescriptor, tidy, fitsDescriptor, allFit, every}
@@ -22,7 +21,7 @@ sound w channel d = tidyDescriptor d && fitsDescriptor w channel d
 
 abbrev Inv-loop : tie.InvT-loop
 Inv-loop format description signs₀ i₀ signs i =
-    (i ≤ 16) × Moved (binary signTable) signs i × ((tidy description && allFit (widthOf format) description) ≡ every (sound (widthOf format)) i (drop i (description .channels)))
+    (i ≤ 16) × SignsLeft signs i × ((tidy description && allFit (widthOf format) description) ≡ every (sound (widthOf format)) i (drop i (description .channels)))
 
 abbrev μ-loop : tie.MeasureT-loop
 μ-loop format description signs₀ i₀ signs i = 16 - i

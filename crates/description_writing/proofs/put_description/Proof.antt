@@ -1,5 +1,5 @@
 -- `description_writing::put_description` meets its contract: the inclusion bits and the channels are laid one behind the other. The invariant of the channels:
--- what is left to lay from here makes of these bytes what the sixteen make of those that the loop found. The measure is the number of channels left.
+-- what is left to lay from here makes of these bytes what the sixteen make of those that the loop found, and the highest bit of the signs is this channel's. The measure is the number of channels left.
 use mathlib.Core.Path.{_≡_, _∙_}
 use mathlib.Core.List.{_++_, map}
 use Prim.Native.Nat.{_+_, _≤_, _-_}
@@ -11,8 +11,8 @@ use Rattle.formats.specs.Binary.{bit, binary}
 use Rattle.formats.specs.Laid.{Laid, Owed, laid-length, laid-more, room-first, room-rest, owed-all, owed-room, owed-next, owed-none}
 use Rattle.formats.specs.Number.{digits}
 use Rattle.formats.specs.Writes.{encodeEach}
-use Rattle.channels.specs.BitLaws.{Moved, moved-on, signs-none, sign-first}
-use Rattle.channels.specs.Channel.{channels, signs as signTable, signedOf, widthOf}
+use Rattle.channels.specs.BitLaws.{SignsLeft, moved-on, signs-none, sign-first}
+use Rattle.channels.specs.Channel.{channels, signedOf, widthOf}
 use Rattle.stored_numbers.specs.NumberLaws.{number-laid}
 use Rattle.channels.specs.Descriptors.{absent}
 use Rattle.descriptions.specs.Description.{encodeChannel, encodeDescription, fitsDescriptor, allFit, every}
@@ -26,7 +26,7 @@ Inv-loop out₀ start format description signs₀ at₀ i₀ out signs at i =
     (i ≤ 16)
     × T (every (fitsDescriptor (widthOf format)) i (drop i (description .channels)))
     × Owed out₀ at₀ (encodeEach (encodeChannel (widthOf format)) channels (description .channels)) out at (left (widthOf format) (description .channels) i)
-    × Moved (binary signTable) signs i
+    × SignsLeft signs i
 
 abbrev μ-loop : tie.MeasureT-loop
 μ-loop out₀ start format description signs₀ at₀ i₀ out signs at i = 16 - i

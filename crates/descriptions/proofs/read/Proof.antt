@@ -1,4 +1,4 @@
--- `descriptions::read` meets its contract. The invariant: the arrays have the descriptors of the channels so far and their flags, and say nothing of those left.
+-- `descriptions::read` meets its contract. The invariant: the arrays have the descriptors of the channels so far and their flags, and say nothing of those left; the highest of the inclusion bits, and of the signs, is this channel's.
 -- The measure is the number of channels left.
 use mathlib.Core.Path.{_≡_, refl, sym, ap, _∙_}
 use mathlib.Core.Bool.{true}
@@ -6,11 +6,10 @@ use mathlib.Core.Logic.{⊎-elim}
 use Prim.Native.Nat.{ℕ, _≤_, _-_}
 use native.Mathlib.Omega.{arith}
 use borrow.Author.Needs.{needs}
-use Rattle.formats.specs.Binary.{binary}
 use Rattle.formats.specs.Reader.{ok, readAt}
 use Rattle.formats.specs.declared.Outcome.the-variants.{Done}
-use Rattle.channels.specs.BitLaws.{Moved, moved-none, moved-first, moved-on, moved-out, signs-none, sign-first}
-use Rattle.channels.specs.Channel.{signs as signTable, widthOf}
+use Rattle.channels.specs.BitLaws.{Moved, SignsLeft, moved-none, moved-first, moved-on, moved-out, signs-none, sign-first}
+use Rattle.channels.specs.Channel.{widthOf}
 use Rattle.descriptions.specs.Description.{includes, description}
 use Rattle.descriptions.specs.Read.{nothing, described, channelsFrom}
 use Rattle.descriptions.proofs.Measuring.{Whole, descriptor-whole}
@@ -20,7 +19,7 @@ use Rattle.descriptions.proofs.read.Tie as tie
 
 abbrev Inv-loop : tie.InvT-loop
 Inv-loop s start format descriptors₀ included₀ stored₀ outcome₀ first signs₀ bits₀ at₀ channel₀ descriptors included stored outcome signs bits at channel =
-    (channel ≤ 16) × Gone (widthOf format) bits₀ s first descriptors included stored channel at × (outcome ≡ Done at) × Moved bits₀ bits channel × Moved (binary signTable) signs channel
+    (channel ≤ 16) × Gone (widthOf format) bits₀ s first descriptors included stored channel at × (outcome ≡ Done at) × Moved bits₀ bits channel × SignsLeft signs channel
 
 abbrev μ-loop : tie.MeasureT-loop
 μ-loop s start format descriptors₀ included₀ stored₀ outcome₀ first signs₀ bits₀ at₀ channel₀ descriptors included stored outcome signs bits at channel =
