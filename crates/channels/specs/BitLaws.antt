@@ -2,6 +2,7 @@
 use mathlib.Core.Path.{_≡_, sym, ap, _∙_}
 use mathlib.Core.Bool.{false}
 use Prim.Native.Nat.{ℕ, zero, suc, _+_, _-_, _*_, _/_, _%_, _^_, _≤_, _<_}
+use native.Mathlib.Nat.{mod-mod}
 use native.Mathlib.Omega.{arith}
 use lib.Dec.{eqb}
 use lib.ListN.{getD}
@@ -16,10 +17,6 @@ next : (k bits : ℕ) → moved 1 (moved k bits) ≡ moved (k + 1) bits
 unfolding moved
 next k bits = rw (pow-add 2 k 1) (omega arith)
 
--- a remainder by two is its own
-remainder : (n : ℕ) → n % 2 % 2 ≡ n % 2
-remainder n = omega arith
-
 -- those before channel k are gone, so that its own is the highest
 first : (k bits : ℕ) → k < 16 → bit 16 (moved k bits) ≡ bit (16 - k) bits
 unfolding moved
@@ -27,7 +24,7 @@ first k bits h =
     let e : k + (16 - k - 1) ≡ 15 = omega arith in
     let f : bits * 2 ^ k / 2 ^ 15 ≡ bits / 2 ^ (16 - k - 1) =
     ap (λ n. bits * 2 ^ k / 2 ^ n) (sym e) ∙ sym (shr-shr (bits * 2 ^ k) k (16 - k - 1)) ∙ ap (λ n. n / 2 ^ (16 - k - 1)) (shl-shr bits k) in
-    ap (λ n. eqb (n % 2) 1) (field (bits * 2 ^ k) 1 15) ∙ ap (λ n. eqb n 1) (remainder (bits * 2 ^ k / 2 ^ 15)) ∙ ap (λ n. eqb (n % 2) 1) f
+    ap (λ n. eqb (n % 2) 1) (field (bits * 2 ^ k) 1 15) ∙ ap (λ n. eqb n 1) (mod-mod (bits * 2 ^ k / 2 ^ 15) 2) ∙ ap (λ n. eqb (n % 2) 1) f
 
 -- where none is left, none comes
 none : (k bits j : ℕ) → moved k bits ≡ 0 → moved (k + j) bits ≡ 0

@@ -1,5 +1,5 @@
 -- What is left to judge and to put of a point, and of many points, when some of it is done; and that their numbers are among the values.
-use mathlib.Core.Path.{_≡_, refl, sym, ap, ap₂, _∙_}
+use mathlib.Core.Path.{_≡_, refl, sym, ap₂, _∙_}
 use mathlib.Core.Bool.{Bool, true, false, cond, _&&_}
 use mathlib.Core.List.{List, [], _∷_, _++_, flatMap}
 use Prim.Native.Nat.{ℕ, zero, suc, _+_, _-_, _*_, _≤_, _<_}
@@ -72,9 +72,6 @@ module _ (P : ℕ → Type 0) (d k m from : ℕ) (all : AllAt P d k from) (e : k
   pub all-next : AllAt P d m (from + d)
   all-next r h = let z : from + suc r * d ≡ from + d + r * d = omega arith in rw z at (all (suc r) (omega arith))
 
-pub all-same : (P : ℕ → Type 0) (d k m from : ℕ) → AllAt P d k from → k ≡ m → AllAt P d m from
-all-same P d k m from all e r h = all r (omega arith)
-
 -- the numbers of as many points as the amount says are among the values
 module _ (count k : ℕ) (values : List ℤ) (amount : length values ≡ count * k) where
   pub points-inside : (order : Order) → AllAt (Inside values (stride order count) k) (step order k) count 0
@@ -122,6 +119,20 @@ module _ (stored : List Bool) where
   unfolding many
   many-none i h = rw (stored-none stored i h)
 
+-- they are among the values, and stay so: a channel that isn't stored takes none, and one that is takes the first
+module _ (values : List ℤ) (d : ℕ) (stored : List Bool) (i at : ℕ) (h : i < length stored) (all : Inside values d (many stored i) at) where
+  pub pass-inside : getD stored i false ≡ false → Inside values d (many stored (i + 1)) at
+  pass-inside e r q = all r (omega (arith, many-out stored i h e))
+
+  pub record Taken : Type 0 where
+    pub there : at < length values
+    pub rest : Inside values d (many stored (i + 1)) (at + d)
+
+  pub take-inside : getD stored i false ≡ true → Taken
+  take-inside e =
+      let m = many-in stored i h e in
+      record { there = all-first (λ j. j < length values) d _ _ at all m; rest = all-next (λ j. j < length values) d _ _ at all m }
+
 module _ (w d : ℕ) (stored : List Bool) (values : List ℤ) where
   -- how they are judged
   unfoldable pub judgeLeft : ℕ → ℕ → Judgement
@@ -160,6 +171,18 @@ pub owed-run : {s : List ℕ} {start : ℕ} {b t : List ℕ} {at : ℕ} {c u : L
 owed-run o p = record { place = o .place ∙ p .place; bytes = o .bytes ∙ p .bytes; kept = p .kept ∙ o .kept }
 
 -- ---- Many points: those from i on, and the numbers from an index on
+
+-- the first of them: its numbers are among the values, and so are those of the points behind it
+pub record NextPoint (values : List ℤ) (d k p m from : ℕ) : Type 0 where
+  pub inside : Inside values d k from
+  pub rest : AllAt (Inside values d k) p m (from + p)
+  pub there : from < length values
+
+pub next-point : (values : List ℤ) (d k p n i from : ℕ) → i < n → 0 < k → AllAt (Inside values d k) p (n - i) from → NextPoint values d k p (n - (i + 1)) from
+next-point values d k p n i from h some all =
+    let m : n - i ≡ 1 + (n - (i + 1)) = omega arith in
+    let inside = all-first (Inside values d k) p _ _ from all m in
+    record { inside = inside; rest = all-next (Inside values d k) p _ _ from all m; there = all-first (λ j. j < length values) d k (k - 1) from inside (omega arith) }
 
 module _ (w d : ℕ) (l : List ℕ) (values : List ℤ) (p n i from : ℕ) (h : i < n) where
   count : n - i ≡ suc (n - (i + 1))

@@ -1,17 +1,16 @@
 -- `values::judge_from` meets its contract. The invariant: of all points is told what is told of those left.
 use mathlib.Core.Path.{_≡_, sym, ap, _∙_}
-use Prim.Native.Nat.{_≤_, _<_, _-_, _+_}
+use Prim.Native.Nat.{_≤_, _-_, _+_}
 use native.Mathlib.Nat.{sub-zero}
 use native.Mathlib.Omega.{arith}
 use borrow.Author.Needs.{needs}
-use lib.ListN.{length}
 use Rattle.refusals.specs.Stages.{orElse}
 use Rattle.refusals.specs.declared.Judgement.{Judgement}
 use Rattle.channels.specs.Channel.{widthOf}
 use Rattle.points.specs.Points.{channels}
 use Rattle.values.specs.Values.{size, judgePoint, judgeFrom}
 use Rattle.values.specs.Parts.{AllAt, Inside}
-use Rattle.values.proofs.Lent.{all-first, all-next, next-judged, last-judged}
+use Rattle.values.proofs.Lent.{NextPoint, next-point, next-judged, last-judged}
 use Rattle.values.proofs.judge_from.Statement.{statement}
 use Rattle.values.proofs.judge_from.Tie as tie
 
@@ -31,17 +30,8 @@ module _ (c : tie.In-loop Inv-loop μ-loop) where
   abbrev start : tie.Start Inv-loop μ-loop
   start = c .before .before
 
-  one-more : start .args .count - c .before .loop .i ≡ 1 + (start .args .count - (c .before .loop .i + 1))
-  one-more = omega (arith, c .loop-test .taken)
-
-  inside : Inside (start .args .values .now) (start .args .stride) (size (start .args .stored .now)) (c .before .loop .from)
-  inside = all-first (Inside (start .args .values .now) (start .args .stride) (size (start .args .stored .now))) (start .args .step) _ _ (c .before .loop .from) (c .before .loop .inv .1) one-more
-
-  rest : AllAt (Inside (start .args .values .now) (start .args .stride) (size (start .args .stored .now))) (start .args .step) (start .args .count - (c .before .loop .i + 1)) (c .before .loop .from + start .args .step)
-  rest = all-next (Inside (start .args .values .now) (start .args .stride) (size (start .args .stored .now))) (start .args .step) _ _ (c .before .loop .from) (c .before .loop .inv .1) one-more
-
-  there : c .before .loop .from < length (start .args .values .now)
-  there = all-first (λ i. i < length (start .args .values .now)) (start .args .stride) (size (start .args .stored .now)) (size (start .args .stored .now) - 1) (c .before .loop .from) inside (omega (arith, c .before .before .pre .3))
+  next : NextPoint (start .args .values .now) (start .args .stride) (size (start .args .stored .now)) (start .args .step) (start .args .count - (c .before .loop .i + 1)) (c .before .loop .from)
+  next = next-point _ _ _ _ (start .args .count) (c .before .loop .i) _ (c .loop-test .taken) (start .pre .3) (c .before .loop .inv .1)
 
   abbrev here : Judgement
   here = judgePoint (widthOf (start .args .format)) (start .args .stride) (channels (start .args .stored .now)) (start .args .values .now) (c .before .loop .from)
@@ -53,7 +43,7 @@ module _ (c : tie.In-loop Inv-loop μ-loop) where
   judged e = c .before .loop .inv .2 ∙ next-judged _ _ _ _ _ (start .args .count) (c .before .loop .i) _ (c .loop-test .taken) ∙ ap (λ f. orElse f later) e
 
 judge-point-requires : tie.Need-judge-point-requires Inv-loop μ-loop
-judge-point-requires c κs = let s = c .before .before in (s .pre .0, s .pre .1, inside c)
+judge-point-requires c κs = let s = c .before .before in (s .pre .0, s .pre .1, next c .inside)
 
 enum-told : tie.Need-enum-told Inv-loop μ-loop
 enum-told c = search needs
@@ -69,7 +59,7 @@ returns c =
     e ∙ sym (judged (x .before) (sym (x .judge-point .ensures) ∙ e))
 
 add-from : tie.Need-add-from Inv-loop μ-loop
-add-from c = let h = there (c .before .before .before) in record { fits = omega arith }
+add-from c = let h = next (c .before .before .before) .there in record { fits = omega arith }
 
 add-i : tie.Need-add-i Inv-loop μ-loop
 add-i c = omega arith
@@ -81,7 +71,7 @@ loop-again : tie.Need-loop-again Inv-loop μ-loop
 unfolding orElse
 loop-again c =
     let x = c .before .before in
-    (omega arith, rest (x .before), judged (x .before) (sym (x .judge-point .ensures) ∙ c .enum-told2 .given .1))
+    (omega arith, next (x .before) .rest, judged (x .before) (sym (x .judge-point .ensures) ∙ c .enum-told2 .given .1))
 
 returns-2 : tie.Need-returns-2 Inv-loop μ-loop
 returns-2 c = sym (c .before .loop .inv .2 ∙ last-judged _ _ _ _ _ _ _ _ (c .loop-test .left))

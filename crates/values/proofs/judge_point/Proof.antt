@@ -17,7 +17,7 @@ use Rattle.channels.specs.Channel.{widthOf}
 use Rattle.points.specs.Points.{channels, fitsSample}
 use Rattle.values.specs.Values.{judgePoint, storedSample}
 use Rattle.values.specs.Parts.{Inside, many}
-use Rattle.values.proofs.Lent.{judgeLeft, many-out, pass-judged, many-in, take-judged, judged-none, all-first, all-next, all-same, fits-number, fits-outside}
+use Rattle.values.proofs.Lent.{judgeLeft, pass-judged, pass-inside, Taken, take-inside, take-judged, judged-none, fits-number, fits-outside}
 use Rattle.values.proofs.judge_point.Statement.{statement}
 use Rattle.values.proofs.judge_point.Tie as tie
 
@@ -65,23 +65,17 @@ module _ (c : tie.Then1 Inv-loop μ-loop) where
   within : channel < length stored
   within = omega (arith, sixteen (turn .before))
 
-  one-more : many stored channel ≡ 1 + many stored (channel + 1)
-  one-more = many-in stored channel within (c .if1 .taken)
-
-  there : index < length values
-  there = all-first (λ i. i < length values) d _ _ index (turn .loop .inv .1) one-more
-
-  rest : Inside values d (many stored (channel + 1)) (index + d)
-  rest = all-next (λ i. i < length values) d _ _ index (turn .loop .inv .1) one-more
+  taken : Taken values d stored channel index within (turn .loop .inv .1)
+  taken = take-inside values d stored channel index within (turn .loop .inv .1) (c .if1 .taken)
 
   judged : judgeLeft w d stored values channel index ≡ orElse (require (fitsSample w channel (getD values index (pos 0))) (OutOfRange (Value index channel))) (judgeLeft w d stored values (channel + 1) (index + d))
   judged = take-judged w d stored values channel index within (c .if1 .taken)
 
 mul-value : tie.Need-mul-value Inv-loop μ-loop
-mul-value c = let h = there c in search needs
+mul-value c = let h = taken c .there in search needs
 
 shared-slice-copy-out-value : tie.Need-shared-slice-copy-out-value Inv-loop μ-loop
-shared-slice-copy-out-value c = there c
+shared-slice-copy-out-value c = taken c .there
 
 stored-sample-requires : tie.Need-stored-sample-requires Inv-loop μ-loop
 stored-sample-requires c κs = search needs
@@ -107,7 +101,7 @@ returns c =
     sym (turn t .loop .inv .2 ∙ judged t ∙ rw f)
 
 add-index : tie.Need-add-index Inv-loop μ-loop
-add-index c = let h = there (c .before .before .before .before) in record { fits = omega arith }
+add-index c = let h = taken (c .before .before .before .before) .there in record { fits = omega arith }
 
 add-channel : tie.Need-add-channel Inv-loop μ-loop
 add-channel c = omega arith
@@ -126,13 +120,13 @@ loop-again c =
     let t : tie.Then1 Inv-loop μ-loop = record { before = b; if1 = x .0 } in
     let s : tie.After-stored-sample Inv-loop μ-loop = record { before = record { before = t; value = x .1 }; stored-sample = x .2 } in
     let f = fits-number (w t) (channel t) _ (sym (found s) ∙ x .4 .given .1) in
-    rw (x .5) (omega arith, rest t, l .loop .inv .2 ∙ judged t ∙ rw f))
+    rw (x .5) (omega arith, taken t .rest, l .loop .inv .2 ∙ judged t ∙ rw f))
     (λ x.
     let h : l .loop .channel < length (a .stored .now) = omega (arith, sixteen (l .before)) in
     let e = x .0 .left in
     rw (x .1) (
       omega arith,
-      all-same (λ i. i < length (a .values .now)) _ _ _ _ (l .loop .inv .1) (many-out (a .stored .now) (l .loop .channel) h e),
+      pass-inside (a .values .now) (a .stride) (a .stored .now) (l .loop .channel) (l .loop .index) h (l .loop .inv .1) e,
       l .loop .inv .2 ∙ pass-judged (widthOf (a .format)) (a .stride) (a .stored .now) (a .values .now) (l .loop .channel) (l .loop .index) h e,
     ))
     (c .if1 .came)

@@ -1,16 +1,14 @@
 -- `values::put_from` meets its contract. The invariant: what is left to lay makes of these bytes what all of it makes of those at the start.
-use mathlib.Core.Path.{_≡_}
 use mathlib.Core.List.{_++_}
-use Prim.Native.Nat.{_≤_, _<_, _-_, _+_}
+use Prim.Native.Nat.{_≤_, _-_, _+_}
 use native.Mathlib.Nat.{sub-zero}
 use native.Mathlib.Omega.{arith}
-use lib.ListN.{length}
 use Rattle.formats.specs.Laid.{Owed, owed-all, owed-next, owed-none, owed-room, room-first}
 use Rattle.channels.specs.Channel.{widthOf}
 use Rattle.points.specs.Points.{channels}
 use Rattle.values.specs.Values.{size}
 use Rattle.values.specs.Parts.{AllAt, Inside, pointBytes, pointsBytes}
-use Rattle.values.proofs.Lent.{all-first, all-next, next-bytes, last-bytes}
+use Rattle.values.proofs.Lent.{NextPoint, next-point, next-bytes, last-bytes}
 use Rattle.values.proofs.put_from.Statement.{statement}
 use Rattle.values.proofs.put_from.Tie as tie
 
@@ -30,17 +28,8 @@ module _ (c : tie.In-loop Inv-loop μ-loop) where
   abbrev start : tie.Start Inv-loop μ-loop
   start = c .before .before .before
 
-  one-more : start .args .count - c .before .loop .i ≡ 1 + (start .args .count - (c .before .loop .i + 1))
-  one-more = omega (arith, c .loop-test .taken)
-
-  inside : Inside (start .args .values .now) (start .args .stride) (size (start .args .stored .now)) (c .before .loop .from)
-  inside = all-first (Inside (start .args .values .now) (start .args .stride) (size (start .args .stored .now))) (start .args .step) _ _ (c .before .loop .from) (c .before .loop .inv .1) one-more
-
-  rest : AllAt (Inside (start .args .values .now) (start .args .stride) (size (start .args .stored .now))) (start .args .step) (start .args .count - (c .before .loop .i + 1)) (c .before .loop .from + start .args .step)
-  rest = all-next (Inside (start .args .values .now) (start .args .stride) (size (start .args .stored .now))) (start .args .step) _ _ (c .before .loop .from) (c .before .loop .inv .1) one-more
-
-  there : c .before .loop .from < length (start .args .values .now)
-  there = all-first (λ i. i < length (start .args .values .now)) (start .args .stride) (size (start .args .stored .now)) (size (start .args .stored .now) - 1) (c .before .loop .from) inside (omega (arith, c .before .before .before .pre .3))
+  next : NextPoint (start .args .values .now) (start .args .stride) (size (start .args .stored .now)) (start .args .step) (start .args .count - (c .before .loop .i + 1)) (c .before .loop .from)
+  next = next-point _ _ _ _ (start .args .count) (c .before .loop .i) _ (c .loop-test .taken) (start .pre .3) (c .before .loop .inv .1)
 
   owed : Owed
       (start .args .out .now)
@@ -56,10 +45,10 @@ put-point-requires : tie.Need-put-point-requires Inv-loop μ-loop
 put-point-requires c κs =
     let l = c .before in
     let s = l .before .before .before in
-    (s .pre .0, s .pre .1, inside l, room-first _ _ (owed-room (owed l) (s .pre .5)))
+    (s .pre .0, s .pre .1, next l .inside, room-first _ _ (owed-room (owed l) (s .pre .5)))
 
 add-from : tie.Need-add-from Inv-loop μ-loop
-add-from c = let h = there (c .before .before .before .before) in record { fits = omega arith }
+add-from c = let h = next (c .before .before .before .before) .there in record { fits = omega arith }
 
 add-i : tie.Need-add-i Inv-loop μ-loop
 add-i c = omega arith
@@ -71,7 +60,7 @@ loop-again : tie.Need-loop-again Inv-loop μ-loop
 loop-again c =
     let p = c .before .before in
     let k = p .before .before in
-    (omega arith, rest k, owed-next (owed k) (p .put-point .ensures))
+    (omega arith, next k .rest, owed-next (owed k) (p .put-point .ensures))
 
 same-length : tie.Need-same-length Inv-loop μ-loop
 same-length c = c .before .loop .inv .2 .kept

@@ -15,7 +15,7 @@ use Rattle.formats.specs.Laid.{Owed, owed-all, owed-next, owed-room, room-first
 use Rattle.channels.specs.Channel.{widthOf}
 use Rattle.values.specs.Values.{sampleBytes}
 use Rattle.values.specs.Parts.{Inside, many, bytesLeft}
-use Rattle.values.proofs.Lent.{many-out, pass-bytes, many-in, take-bytes, all-first, all-next, all-same}
+use Rattle.values.proofs.Lent.{pass-bytes, pass-inside, Taken, take-inside, take-bytes}
 use Rattle.values.proofs.put_run.Statement.{statement}
 use Rattle.values.proofs.put_run.Tie as tie
 
@@ -63,14 +63,8 @@ module _ (c : tie.Then1 Inv-loop μ-loop) where
   within : channel < length stored
   within = omega (arith, sixteen (turn .before .before), turn .before .before .pre .5)
 
-  one-more : many stored channel ≡ 1 + many stored (channel + 1)
-  one-more = many-in stored channel within (c .if1 .taken)
-
-  there : index < length values
-  there = all-first (λ i. i < length values) d _ _ index (turn .loop .inv .1) one-more
-
-  rest : Inside values d (many stored (channel + 1)) (index + d)
-  rest = all-next (λ i. i < length values) d _ _ index (turn .loop .inv .1) one-more
+  taken : Taken values d stored channel index within (turn .loop .inv .1)
+  taken = take-inside values d stored channel index within (turn .loop .inv .1) (c .if1 .taken)
 
   owed : Owed
       (turn .before .before .args .out .now)
@@ -86,10 +80,10 @@ read : (c : tie.After-value Inv-loop μ-loop) → toZ w32 (ofZ w32 (getD (values
 read c = toZ-ofZ w32 (getD (values (c .before)) (index (c .before)) (pos 0)) (search needs)
 
 mul-value : tie.Need-mul-value Inv-loop μ-loop
-mul-value c = let h = there c in search needs
+mul-value c = let h = taken c .there in search needs
 
 shared-slice-copy-out-value : tie.Need-shared-slice-copy-out-value Inv-loop μ-loop
-shared-slice-copy-out-value c = there c
+shared-slice-copy-out-value c = taken c .there
 
 put-sample-requires : tie.Need-put-sample-requires Inv-loop μ-loop
 put-sample-requires c κs =
@@ -97,7 +91,7 @@ put-sample-requires c κs =
     rw (read (c .before)) (room-first _ _ (owed-room (owed t) (turn t .before .before .pre .3)))
 
 add-index : tie.Need-add-index Inv-loop μ-loop
-add-index c = let h = there (c .before .before .before .before .before) in record { fits = omega arith }
+add-index c = let h = taken (c .before .before .before .before .before) .there in record { fits = omega arith }
 
 add-channel : tie.Need-add-channel Inv-loop μ-loop
 add-channel c = omega arith
@@ -114,13 +108,13 @@ loop-again c =
     (λ x.
     let t : tie.Then1 Inv-loop μ-loop = record { before = b; if1 = x .0 } in
     let laid = rw (read (record { before = t; value = x .1 })) at (x .3 .ensures) in
-    rw (x .6, x .7, x .8) (omega arith, rest t, owed-next (owed t) laid))
+    rw (x .6, x .7, x .8) (omega arith, taken t .rest, owed-next (owed t) laid))
     (λ x.
     let h : l .loop .channel < length (a .stored .now) = omega (arith, sixteen (l .before .before), l .before .before .pre .5) in
     let e = x .0 .left in
     rw (x .1, x .2, x .3) (
       omega arith,
-      all-same (λ i. i < length (a .values .now)) _ _ _ _ (l .loop .inv .1) (many-out (a .stored .now) (l .loop .channel) h e),
+      pass-inside (a .values .now) (a .stride) (a .stored .now) (l .loop .channel) (l .loop .index) h (l .loop .inv .1) e,
       rw (pass-bytes (widthOf (a .format)) (a .stride) (a .stored .now) (a .values .now) (l .loop .channel) (l .loop .index) h e) at (l .loop .inv .2),
     ))
     (c .if1 .came)
