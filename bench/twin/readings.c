@@ -2,6 +2,7 @@
 #include "twin.h"
 
 #define OUTSIDE ((struct reading){.number = 12, .kind = NUMBER})
+#define UNCALIBRATED ((struct reading){.number = 20, .kind = NUMBER})
 
 // A test that seldom holds: clang then branches, and does not gather the answers of several.
 #define SELDOM(test) __builtin_expect(test, false)
@@ -16,14 +17,14 @@ LIBRARY struct reading thousandths(int64_t raw, uint64_t e, uint64_t f)
     return (struct reading){.thousandths = (twice + (raw >= 0)) >> 1, .kind = NUMBER};
 }
 
-// One place of a point: a constant is read as raw 1, a channel without a scaling value with scale 1 (E 16, F 0).
+// One place of a point: a constant is read as raw 1; without a scaling value its channel's calibration is unknown.
 LIBRARY struct reading place_thousandths(struct place place, struct attribute scaling)
 {
     if (place.kind == ABSENT)
         return (struct reading){.kind = ABSENT};
     int64_t raw = place.kind == CONSTANT ? 1 : place.number;
     if (!scaling.given)
-        return thousandths(raw, 16, 0);
+        return UNCALIBRATED;
     if (scaling.number < 0)
         return OUTSIDE;
     return thousandths(raw, (uint32_t)scaling.number >> 11, scaling.number & 2047);

@@ -182,6 +182,6 @@ fn place(words: &mut Words) -> Read<String> {
     Ok(match of_place(place, scaling) {
         Reading::Absent => "absent".to_string(),
         Reading::Thousandths(number) => format!("thousandths {number}"),
-        Reading::Refused => "refused 12".to_string(),
+        Reading::Refused(number) => format!("refused {number}"),
     })
 }

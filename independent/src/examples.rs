@@ -6,6 +6,7 @@ const SCOPE: &str = "examples of document 01";
 const ASK: &str = "examples of the paper on ask";
 const ANNEX: &str = "examples of annex C";
 const ORDER: &str = "examples of request L11";
+const CALIBRATION: &str = "examples of request L3";
 
 /// M of document 01: a record with no points.
 const M: &[u8] = &[
@@ -24,6 +25,7 @@ pub fn ask_all(comparison: &mut Comparison) {
         (ASK, ASK_EXAMPLES),
         (ANNEX, ANNEX_EXAMPLES),
         (ORDER, ORDER_EXAMPLES),
+        (CALIBRATION, CALIBRATION_EXAMPLES),
     ] {
         for (line, answer) in examples {
             comparison.ask_typed(kind, line, answer);
@@ -143,6 +145,7 @@ const ASK_EXAMPLES: Typed = &[
     ("write-template 100 5 !", "written 5 B103820164"),
     ("thousandths 3 26 1952", "thousandths 2"),
     ("place - 55200", "thousandths 1"),
+    ("place - !", "refused 20"),
     ("judge 53 45", "refused 2 1"),
 ];
 
@@ -226,6 +229,118 @@ const ORDER_EXAMPLES: Typed = &[
     ("place 2001 53152", "thousandths 2001"),
     ("place -2000 53152", "thousandths -2000"),
     ("place -2001 53152", "thousandths -2001"),
+];
+
+/// Request L3: 20 without a scaling value, before 12; an absent place stays absent.
+const CALIBRATION_EXAMPLES: Typed = &[
+    // X and Y of P8 and P9 have no scaling value, and 63, 309 and 316 of C.1 have none either.
+    ("place -1 !", "refused 20"),
+    ("place 0 !", "refused 20"),
+    ("place - !", "refused 20"),
+    ("place 5 !", "refused 20"),
+    ("place 63 !", "refused 20"),
+    ("place 309 !", "refused 20"),
+    ("place 316 !", "refused 20"),
+    ("place . !", "absent"),
+    // The ends of raw; then outside of them, where 20 comes before 12.
+    ("place 1 !", "refused 20"),
+    ("place -32768 !", "refused 20"),
+    ("place 32767 !", "refused 20"),
+    ("place 65535 !", "refused 20"),
+    ("place -32769 !", "refused 20"),
+    ("place 65536 !", "refused 20"),
+    ("place -2147483648 !", "refused 20"),
+    ("place 2147483647 !", "refused 20"),
+    // A number without its flag is no scaling value: 0, in range, and outside both ways.
+    ("place - !0", "refused 20"),
+    ("place - !1", "refused 20"),
+    ("place - !32768", "refused 20"),
+    ("place - !55200", "refused 20"),
+    ("place - !65535", "refused 20"),
+    ("place - !65536", "refused 20"),
+    ("place - !2147483647", "refused 20"),
+    ("place - !-1", "refused 20"),
+    ("place - !-2147483648", "refused 20"),
+    ("place 0 !0", "refused 20"),
+    ("place 5 !0", "refused 20"),
+    ("place 5 !32768", "refused 20"),
+    ("place 5 !65535", "refused 20"),
+    ("place 5 !65536", "refused 20"),
+    ("place 5 !-1", "refused 20"),
+    ("place -5 !55200", "refused 20"),
+    // Raw outside as well.
+    ("place 65536 !0", "refused 20"),
+    ("place 65536 !32768", "refused 20"),
+    ("place 65536 !65536", "refused 20"),
+    ("place 70000 !-1", "refused 20"),
+    ("place -32769 !0", "refused 20"),
+    ("place -32769 !55200", "refused 20"),
+    ("place -32769 !70000", "refused 20"),
+    ("place -2147483648 !-2147483648", "refused 20"),
+    ("place 2147483647 !2147483647", "refused 20"),
+    // Absent with everything.
+    ("place . !0", "absent"),
+    ("place . !32768", "absent"),
+    ("place . !65535", "absent"),
+    ("place . !65536", "absent"),
+    ("place . !-1", "absent"),
+    ("place . !2147483647", "absent"),
+    ("place . !-2147483648", "absent"),
+    ("place . 0", "absent"),
+    ("place . 32768", "absent"),
+    ("place . 65535", "absent"),
+    ("place . 65536", "absent"),
+    ("place . -1", "absent"),
+    ("place . 2147483647", "absent"),
+    ("place . -2147483648", "absent"),
+    // 0 with its flag is E 0, F 0, scale 2^-16: raw * 65536 * 1000.
+    ("place - 0", "thousandths 65536000"),
+    ("place 1 0", "thousandths 65536000"),
+    ("place -1 0", "thousandths -65536000"),
+    ("place 0 0", "thousandths 0"),
+    ("place 65535 0", "thousandths 4294901760000"),
+    ("place -32768 0", "thousandths -2147483648000"),
+    ("place 65536 0", "refused 12"),
+    ("place -32769 0", "refused 12"),
+    // E 0, F 1: 2^27 * 1000 / 2049. 2049 * 65504015 is 134217726735, which leaves 1265 of
+    // 134217728000, more than a half of 2049.
+    ("place - 1", "thousandths 65504016"),
+    // 32768 with its flag is E 16, F 0, scale 1: a constant is 1, in thousandths 1000.
+    ("place - 32768", "thousandths 1000"),
+    ("place 5 32768", "thousandths 5000"),
+    ("place -5 32768", "thousandths -5000"),
+    ("place 0 32768", "thousandths 0"),
+    ("place 65535 32768", "thousandths 65535000"),
+    ("place 65536 32768", "refused 12"),
+    ("place -32769 32768", "refused 12"),
+    // 65535 is E 31, F 2047, scale 65520: 1000 / 65520 is below a half, 32768000 / 65520 is
+    // 500 and 8000 / 65520, 65535000 / 65520 is 1000 and 15000 / 65520.
+    ("place - 65535", "thousandths 0"),
+    ("place -32768 65535", "thousandths -500"),
+    ("place 65535 65535", "thousandths 1000"),
+    ("place 65536 65535", "refused 12"),
+    // Given and out of range is 12, for a constant too.
+    ("place - 65536", "refused 12"),
+    ("place - -1", "refused 12"),
+    ("place - 2147483647", "refused 12"),
+    ("place - -2147483648", "refused 12"),
+    ("place 5 65536", "refused 12"),
+    ("place 5 -1", "refused 12"),
+    ("place 5 -32768", "refused 12"),
+    ("place 65536 65536", "refused 12"),
+    ("place 70000 -1", "refused 12"),
+    ("place -32769 -1", "refused 12"),
+    // `-0` is 0, as a place, as a scaling value and as a number without its flag.
+    ("place -0 !", "refused 20"),
+    ("place - !-0", "refused 20"),
+    ("place - -0", "thousandths 65536000"),
+    ("place -0 -0", "thousandths 0"),
+    // From raw, E and F it is as it was: 12 only, and scale 1 and scale 2^-16 are read.
+    ("thousandths 1 16 0", "thousandths 1000"),
+    ("thousandths 1 0 0", "thousandths 65536000"),
+    ("thousandths 65536 0 0", "refused 12"),
+    ("thousandths 1 32 0", "refused 12"),
+    ("thousandths 1 0 2048", "refused 12"),
 ];
 
 /// C.1 with all of its 475 points, the third one standing for those not printed.
@@ -353,6 +468,11 @@ pub const UNREADABLE: Typed = &[
     ("place . !!", NOT_NUMBER),
     ("place . 2147483648", NOT_NUMBER),
     ("place . !2147483648", NOT_NUMBER),
+    // A line that cannot be read isn't refused, also where there would be no calibration.
+    ("place - !x", NOT_NUMBER),
+    ("place 5 !!", NOT_NUMBER),
+    ("place - !2147483648", NOT_NUMBER),
+    ("place 5 !-2147483649", NOT_NUMBER),
     ("judge 5", NOT_BYTES),
     ("judge 534", NOT_BYTES),
     ("judge 5 3", NOT_BYTES),
@@ -414,6 +534,8 @@ pub const UNREADABLE: Typed = &[
     ("thousandths 1 2 3 x", TOO_MANY),
     ("place . ! .", TOO_MANY),
     ("place 5 5 !", TOO_MANY),
+    ("place 5 ! 5", TOO_MANY),
+    ("place - ! !", TOO_MANY),
     // The first word that cannot be read decides.
     ("write x , A -1 W", NOT_NUMBER),
     ("write 0 - A -1 W", NOT_BYTES),
@@ -465,7 +587,7 @@ pub const UNREADABLE: Typed = &[
         "written 8 B1068104C0000000",
     ),
     ("place . 70000", "absent"),
-    ("place - !70000", "thousandths 1000"),
+    ("place - !70000", "refused 20"),
     ("place 5 -1", "refused 12"),
-    ("place 65536 !", "refused 12"),
+    ("place 65536 !", "refused 20"),
 ];

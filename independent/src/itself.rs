@@ -1,6 +1,6 @@
 //! The check of this program by itself, before there is any other: what it writes it reads
-//! back, what it reads it writes again, its readings keep the order of request L11, and the
-//! typed answers are its own.
+//! back, what it reads it writes again, its readings keep the order of request L11, it has none
+//! without a scaling value (request L3), and the typed answers are its own.
 
 use crate::asking;
 use crate::compare::Comparison;
@@ -10,7 +10,8 @@ use crate::random::Random;
 use crate::record::{self, Place, Record};
 use crate::refusal::Refusal;
 use crate::template::{self, Template};
-use crate::thousandths::{first_shared, scale_at_most_1000, thousandths, ES, FS, RAWS};
+use crate::thousandths::{first_shared, of_place, scale_at_most_1000, thousandths, Reading};
+use crate::thousandths::{ES, FS, RAWS};
 use crate::writing::{self, Parts, LONGEST_EXTENDED};
 
 #[derive(Default)]
@@ -43,6 +44,7 @@ pub fn check(seed: u64, cases: usize) -> bool {
         record_there_and_back(&mut counts, &mut random, parts);
         template_there_and_back(&mut counts, &mut random);
         nearest(&mut counts, &mut random);
+        calibration(&mut counts, &mut random);
     }
     for _ in 0..cases.div_ceil(5) {
         let mut parts = inputs::any_parts(&mut random);
@@ -51,8 +53,8 @@ pub fn check(seed: u64, cases: usize) -> bool {
     }
     order(&mut counts, &mut random, cases);
     println!("checks of itself: {} good, {} bad", counts.good, counts.bad);
-    // The answers typed from the papers, and the claims on runs of its own answers; the other
-    // questions are only worked through.
+    // The answers typed from the papers, and the claims on its own answers; the other questions
+    // are only worked through.
     let mut comparison = Comparison::new(None, cases);
     asking::everything(&mut comparison, seed);
     comparison.show_expected();
@@ -138,6 +140,23 @@ fn nearest(counts: &mut Counts, random: &mut Random) {
     let near = 2 * away.abs() < below;
     let half = 2 * away.abs() == below && away.signum() == exact.signum();
     counts.check("a reading is the nearest", near || half);
+}
+
+/// Request L3, on this program's own rules, with numbers in range and some outside.
+fn calibration(counts: &mut Counts, random: &mut Random) {
+    let raw = random.between(-40000, 70000);
+    let (e, f) = (random.between(-2, 33), random.between(0, 2047));
+    let scaling = Some(2048 * e + f);
+    for (place, raw) in [(Place::Constant, 1), (Place::Number(raw), raw)] {
+        let without = of_place(place, None) == Reading::Refused(20);
+        counts.check("without a scaling value there is no reading", without);
+        let of_numbers = thousandths(raw, e, f).map_or(Reading::Refused(12), Reading::Thousandths);
+        let with = of_place(place, scaling) == of_numbers;
+        counts.check("with a scaling value raw, E and F are read", with);
+    }
+    let absent = [None, scaling].map(|scaling| of_place(Place::Absent, scaling));
+    let stays = absent == [Reading::Absent, Reading::Absent];
+    counts.check("an absent place stays absent", stays);
 }
 
 const ORDERED: &str = "a greater raw number never has a smaller reading";

@@ -1,4 +1,4 @@
-//! The numbered refusals of document 01.
+//! The numbered refusals of document 01 and of request L3.
 
 /// A refusal's number, and its place where the paper names one.
 #[derive(Clone, Copy, Debug, PartialEq, Eq)]

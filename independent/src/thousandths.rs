@@ -1,5 +1,6 @@
 //! Readings in thousandths, straight from the fraction of document 01:
 //! raw * 2^27 / ((2048 + F) * 2^E). The numbers are wide, so nothing overflows.
+//! One place of a point is read with its channel's scaling value, or not at all (request L3).
 
 use std::ops::RangeInclusive;
 
@@ -44,24 +45,29 @@ pub fn first_shared(e: i64, f: i64) -> Option<i64> {
     (above > 0).then(|| scale / (2 * above))
 }
 
-/// What one place of a point reads as.
+/// What one place of a point reads as, or the number of its refusal.
+#[derive(Debug, PartialEq, Eq)]
 pub enum Reading {
     Absent,
     Thousandths(i128),
-    Refused,
+    Refused(u8),
 }
 
+/// A scaling value is given where its flag is set, 0 too. A number without its flag is none.
 pub fn of_place(place: Place, scaling: Option<i64>) -> Reading {
     let raw = match place {
-        // Absent stays absent, whatever the scaling value.
+        // Absent stays absent, whatever the scaling value and also without one.
         Place::Absent => return Reading::Absent,
+        // 1 divided by the scale (002, 7.3.4.2).
         Place::Constant => 1,
         Place::Number(number) => number,
     };
-    // Without a scaling value the scale is 1: E 16, F 0.
-    let scaling = scaling.unwrap_or(16 * 2048);
+    // The calibration is unknown (002, 7.3.4.3). This is said before any number is judged.
+    let Some(scaling) = scaling else {
+        return Reading::Refused(20);
+    };
     match thousandths(raw, scaling.div_euclid(2048), scaling.rem_euclid(2048)) {
         Some(number) => Reading::Thousandths(number),
-        None => Reading::Refused,
+        None => Reading::Refused(12),
     }
 }

@@ -1,12 +1,12 @@
--- The readings that document 01 gives beside P12, which the crate `examples` has, and what a place of a point reads as.
+-- The readings that document 01 gives beside P12, which the crate `examples` has; what a place of a point reads as; and that it does not without a scaling value.
 use mathlib.Core.Path.{_≡_, refl}
 use mathlib.Core.Bool.{true, false}
 use mathlib.Core.List.{List, [], _∷_, map}
 use Prim.Native.Nat.{ℕ, _+_, _*_}
-use lib.IntN.{pos, negsuc}
+use lib.IntN.{ℤ, pos, negsuc}
 use Rattle.channels.specs.declared.Attribute.{Attribute}
 use Rattle.channels.specs.declared.Place.the-variants.{Absent, Constant, Number}
-use Rattle.readings.specs.Thousandths.{Answer, value, absent, outside, nearest, thousandths, defined, reading, readingBy, scaledReading, placeReading}
+use Rattle.readings.specs.Thousandths.{Answer, value, absent, outside, uncalibrated, nearest, thousandths, defined, reading, readingBy, scaledReading, placeReading}
 
 record Example : Type 0 where
   asked : Answer
@@ -16,12 +16,12 @@ infix 20 _is_
 abbrev _is_ : Answer → Answer → Example
 asked is answer = record { asked = asked; answer = answer }
 
--- no scaling value, whatever the number beside the flag, and the one with this E and F
-abbrev none : Attribute
-none = record { given = false; number = pos 7 }
-
+-- the scaling value with this E and F; and none, a number without its flag
 abbrev scaling : ℕ → ℕ → Attribute
 scaling e f = record { given = true; number = pos (2048 * e + f) }
+
+abbrev none : ℤ → Attribute
+none number = record { given = false; number = number }
 
 abbrev table : List Example
 table =
@@ -33,15 +33,19 @@ table =
     ∷ (reading (negsuc 32768) 0 0 is outside)
     ∷ (reading (pos 1) 32 0 is outside)
     ∷ (reading (pos 1) 0 2048 is outside)
-    ∷ (placeReading Absent none is absent)  -- places
+    ∷ (placeReading Absent (scaling 26 1952) is absent)  -- places
     ∷ (placeReading Absent (record { given = true; number = negsuc 0 }) is absent)
     ∷ (placeReading Constant (scaling 26 1952) is value (pos 1))
-    ∷ (placeReading Constant none is value (pos 1000))
     ∷ (placeReading (Number (negsuc 0)) (scaling 26 1952) is value (negsuc 0))
-    ∷ (placeReading (Number (negsuc 4)) none is value (negsuc 4999))
-    ∷ (placeReading (Number (pos 65536)) none is outside)
+    ∷ (placeReading (Number (pos 1)) (scaling 0 0) is value (pos 65536000))  -- scaling 0 is a value
     ∷ (placeReading (Number (pos 1)) (record { given = true; number = pos 65536 }) is outside)
     ∷ (placeReading (Number (pos 1)) (record { given = true; number = negsuc 0 }) is outside)
+    ∷ (placeReading Absent (none (pos 0)) is absent)  -- request L3
+    ∷ (placeReading Constant (none (pos 0)) is uncalibrated)
+    ∷ (placeReading (Number (negsuc 4)) (none (pos 0)) is uncalibrated)
+    ∷ (placeReading (Number (pos 65536)) (none (pos 0)) is uncalibrated)
+    ∷ (placeReading (Number (pos 3)) (none (pos 55200)) is uncalibrated)
+    ∷ (placeReading Constant (none (negsuc 0)) is uncalibrated)
     ∷ []
 
 pub examples : map (λ e. e .asked) table ≡ map (λ e. e .answer) table

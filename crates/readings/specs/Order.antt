@@ -1,7 +1,6 @@
 -- The order of readings (request L11): what is claimed of the readings that raw numbers have by one scale.
 use mathlib.Core.Path.{_≡_}
 use mathlib.Core.Logic.{_≢_}
-use mathlib.Core.Bool.{cond}
 use Prim.Native.Nat.{ℕ, _+_, _*_, _^_, _≤_}
 use lib.IntN.{ℤ, natAbs}
 use lib.Signed.{_≤ℤ_}
@@ -37,9 +36,9 @@ KeepsApart reads = (raw other x y : ℤ) → raw ≢ other → reads raw x → r
 abbrev pub AtMostThousand : (e f : ℕ) → Type 0
 AtMostThousand e f = (2048 + f) * 2 ^ e ≤ 1000 * 2 ^ 27
 
--- E and F by which a channel is read: of its scaling value, or 16 and 0 where it has none. By one below zero nothing is read, whatever they are
+-- E and F of a channel's scaling value. By one below zero, or by one that is not given, nothing is read, whatever they are
 abbrev pub exponentBy : Attribute → ℕ
-exponentBy scaling = cond (scaling .given) (exponentOf (natAbs (scaling .number))) 16
+exponentBy scaling = exponentOf (natAbs (scaling .number))
 
 abbrev pub fractionBy : Attribute → ℕ
-fractionBy scaling = cond (scaling .given) (fractionOf (natAbs (scaling .number))) 0
+fractionBy scaling = fractionOf (natAbs (scaling .number))

@@ -12,7 +12,7 @@ use lib.Pow.{pow-pos}
 use lib.Signed.{_≤ℤ_}
 use Rattle.formats.specs.Bytes.{impossible}
 use Rattle.channels.specs.declared.Attribute.{Attribute}
-use Rattle.readings.specs.Thousandths.{value, outside, halfUp, nearest, denominator, thousandths, defined, reading, readingBy, scaledReading, placeReading, exponentOf, fractionOf}
+use Rattle.readings.specs.Thousandths.{value, outside, uncalibrated, halfUp, nearest, denominator, thousandths, defined, reading, readingBy, scaledReading, placeReading, exponentOf, fractionOf}
 use Rattle.readings.specs.Laws.{thousandths-opposite, below, below-pos}
 use Rattle.readings.specs.Order.{ReadsAs, PlaceReadsAs, KeepsOrder, KeepsApart, AtMostThousand, exponentBy, fractionBy}
 
@@ -106,11 +106,10 @@ by-one-scale : (scaling : Attribute) (raw x : ℤ) → PlaceReadsAs scaling raw 
 unfolding placeReading scaledReading readingBy
 by-one-scale scaling raw x h = go (scaling .given) (scaling .number) h
   where
-    go : (given : Bool) (number : ℤ) → value x ≡ cond given (readingBy raw number) (reading raw 16 0)
-        → value x ≡ reading raw (cond given (exponentOf (natAbs number)) 16) (cond given (fractionOf (natAbs number)) 0)
+    go : (given : Bool) (number : ℤ) → value x ≡ cond given (readingBy raw number) uncalibrated → value x ≡ reading raw (exponentOf (natAbs number)) (fractionOf (natAbs number))
     go true (pos number) k = k
     go true (negsuc number) k = impossible (cc)
-    go false number k = k
+    go false number k = impossible (cc)
 
 module _ (scaling : Attribute) where
   pub place-thousandths-keeps-order : KeepsOrder (PlaceReadsAs scaling)

@@ -1,4 +1,4 @@
--- A reading in thousandths: the stored value divided by the scaling value (7.3.4.3), as document 01 has it.
+-- A reading in thousandths: the stored value divided by the scaling value (7.3.4.3), as document 01 has it; without one there is none, as request L3 has it.
 use mathlib.Core.Bool.{Bool, cond, _&&_}
 use Prim.Native.Nat.{ℕ, suc, _+_, _*_, _/_, _%_, _^_}
 use lib.IntN.{ℤ, pos, negsuc, negℤ, _*ℤ_}
@@ -6,7 +6,7 @@ use lib.Signed.{leZ}
 use lib.Dec.{leb}
 use Rattle.refusals.specs.declared.Quantity.the-variants as quantity
 use Rattle.refusals.specs.declared.Refusal.{Refusal}
-use Rattle.refusals.specs.declared.Refusal.the-variants.{OutOfRange}
+use Rattle.refusals.specs.declared.Refusal.the-variants.{OutOfRange, Uncalibrated}
 use Rattle.channels.specs.declared.Attribute.{Attribute}
 use Rattle.channels.specs.declared.Place as place
 use Rattle.readings.specs.declared.Reading.{Reading}
@@ -50,6 +50,10 @@ pub data Answer : Type 0 where
 abbrev pub outside : Answer
 outside = refused (OutOfRange quantity.Reading)
 
+-- a channel whose calibration is unknown, refusal 20
+abbrev pub uncalibrated : Answer
+uncalibrated = refused Uncalibrated
+
 -- to_thousandths
 unfoldable pub reading : ℤ → ℕ → ℕ → Answer
 reading raw e f = cond (defined raw e f) (value (thousandths raw e f)) outside
@@ -68,11 +72,11 @@ unfoldable pub readingBy : ℤ → ℤ → Answer
 readingBy raw (pos number) = reading raw (exponentOf number) (fractionOf number)
 readingBy raw (negsuc number) = outside
 
--- without a scaling value the scale is 1: E 16, F 0
+-- "If the value of the scaling factor is absent, the calibration of the channel is taken to be unknown" (7.3.4.3): neither raw nor a number without its flag is looked at
 unfoldable pub scaledReading : ℤ → Attribute → Answer
-scaledReading raw scaling = cond (scaling .given) (readingBy raw (scaling .number)) (reading raw 16 0)
+scaledReading raw scaling = cond (scaling .given) (readingBy raw (scaling .number)) uncalibrated
 
--- place_thousandths: absent stays absent; a constant channel is read as raw 1
+-- place_thousandths: absent stays absent, whatever the scaling value; a constant channel is read as raw 1
 unfoldable pub placeReading : place.Place → Attribute → Answer
 placeReading place.the-variants.Absent scaling = absent
 placeReading place.the-variants.Constant scaling = scaledReading (pos 1) scaling

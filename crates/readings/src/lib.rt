@@ -9,7 +9,7 @@ use channels::Place;
 use refusals::Quantity;
 use refusals::Refusal;
 
-// A whole number of thousandths; or refusal 12, for a raw number, E or F outside its range.
+// A whole number of thousandths; or refusal 12, for a raw number, E or F outside its range; or 20, for a place whose channel has no scaling value.
 pub enum Reading {
     Thousandths(i64),
     Refused(Refusal),
@@ -18,6 +18,8 @@ pub enum Reading {
 const OUTSIDE: Reading = Reading::Refused(Refusal::OutOfRange {
     quantity: Quantity::Reading,
 });
+
+const UNCALIBRATED: Reading = Reading::Refused(Refusal::Uncalibrated);
 
 // What a place of a point reads as.
 pub enum PlaceReading {
@@ -84,22 +86,23 @@ fn scale_of(number: u64) -> Scale
     }
 }
 
-// A raw number with its channel's scaling value, or with scale 1 where there is none.
+// A raw number with its channel's scaling value. Without one the channel's calibration is unknown (7.3.4.3), and nothing else is looked at.
 fn scaled_reading(raw: i64, scaling: Attribute) -> Reading
     ensures { λ r. ⌜ told r ≡ scaledReading raw scaling ⌝ }
 {
-    if scaling.given {
-        let number = scaling.number;
-        if number < 0 {
-            return OUTSIDE;
-        }
-        let scale = scale_of(number as u64);
-        return to_thousandths(raw, scale.exponent, scale.fraction);
+    let given = scaling.given;
+    let number = scaling.number;
+    if !given {
+        return UNCALIBRATED;
     }
-    to_thousandths(raw, 16, 0)
+    if number < 0 {
+        return OUTSIDE;
+    }
+    let scale = scale_of(number as u64);
+    to_thousandths(raw, scale.exponent, scale.fraction)
 }
 
-// One place of a point, with its channel's scaling value: absent stays absent, a constant is read as raw 1.
+// One place of a point, with its channel's scaling value: absent stays absent, whatever that is; a constant is read as raw 1.
 pub fn place_thousandths(place: Place, scaling: Attribute) -> PlaceReading
     ensures { λ r. ⌜ toldPlace r ≡ placeReading place scaling ⌝ }
 {

@@ -10,7 +10,7 @@ use Rattle.refusals.specs.declared.Where.{Where}
 use Rattle.refusals.specs.declared.Where.the-variants.{At, Nowhere}
 use Rattle.refusals.specs.declared.Quantity.{Quantity}
 use Rattle.refusals.specs.declared.Refusal.{Refusal}
-use Rattle.refusals.specs.declared.Refusal.the-variants.{Short, Identifier, Version, XOrY, ReservedBit, ReservedByte, OpeningBits, Switch, LeftOver, NoPoint, Untidy, OutOfRange, Amount, ExtendedSize, Room, Tag, Length, Maximum}
+use Rattle.refusals.specs.declared.Refusal.the-variants.{Short, Identifier, Version, XOrY, ReservedBit, ReservedByte, OpeningBits, Switch, LeftOver, NoPoint, Untidy, OutOfRange, Amount, ExtendedSize, Room, Tag, Length, Maximum, Uncalibrated}
 
 -- ---- The table
 
@@ -35,9 +35,10 @@ rows place quantity =
     ∷ Tag
     ∷ Length
     ∷ Maximum
+    ∷ Uncalibrated
     ∷ []
 
-pub numbers : (place : ℕ) (quantity : Quantity) → map numberOf (rows place quantity) ≡ 1 ∷ 2 ∷ 3 ∷ 4 ∷ 5 ∷ 6 ∷ 7 ∷ 8 ∷ 9 ∷ 10 ∷ 11 ∷ 12 ∷ 13 ∷ 14 ∷ 15 ∷ 16 ∷ 17 ∷ 18 ∷ []
+pub numbers : (place : ℕ) (quantity : Quantity) → map numberOf (rows place quantity) ≡ 1 ∷ 2 ∷ 3 ∷ 4 ∷ 5 ∷ 6 ∷ 7 ∷ 8 ∷ 9 ∷ 10 ∷ 11 ∷ 12 ∷ 13 ∷ 14 ∷ 15 ∷ 16 ∷ 17 ∷ 18 ∷ 20 ∷ []
 numbers place quantity = refl
 
 -- 4 when writing: the same number, and no place

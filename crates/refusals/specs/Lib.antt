@@ -1,4 +1,4 @@
--- `Table`: document 01's table of refusals, with the number and the place of each, and the refusal that a reader's failure is.
+-- `Table`: document 01's table of refusals and request L3's row, with the number and the place of each, and the refusal that a reader's failure is.
 -- `Stages`: stages of judging, of which the first that refuses decides. `Laws`: the numbers row by row, and that a failure keeps its number and its place. `Answers`: no public function has a second answer.
 pub mod Table
 pub mod Stages

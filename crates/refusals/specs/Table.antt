@@ -1,4 +1,4 @@
--- Document 01's table of refusals: the number of each, the place that it names, and the refusal that a reader's failure is.
+-- Document 01's table of refusals, 1 to 18, and request L3's row, 20: the number of each, the place that it names, and the refusal that a reader's failure is.
 use mathlib.Core.List.{List, [], _∷_}
 use Prim.Native.Nat.{ℕ, _-_}
 use lib.ListN.{getD}
@@ -7,7 +7,7 @@ use Rattle.formats.specs.declared.Failure.the-variants as failure
 use Rattle.refusals.specs.declared.Where.{Where}
 use Rattle.refusals.specs.declared.Where.the-variants.{At, Nowhere}
 use Rattle.refusals.specs.declared.Refusal.{Refusal}
-use Rattle.refusals.specs.declared.Refusal.the-variants.{Short, Identifier, Version, XOrY, ReservedBit, ReservedByte, OpeningBits, Switch, LeftOver, NoPoint, Untidy, OutOfRange, Amount, ExtendedSize, Room, Tag, Length, Maximum}
+use Rattle.refusals.specs.declared.Refusal.the-variants.{Short, Identifier, Version, XOrY, ReservedBit, ReservedByte, OpeningBits, Switch, LeftOver, NoPoint, Untidy, OutOfRange, Amount, ExtendedSize, Room, Tag, Length, Maximum, Uncalibrated}
 
 abbrev pub numberOf : Refusal → ℕ
 numberOf Short = 1
@@ -28,6 +28,7 @@ numberOf Room = 15
 numberOf Tag = 16
 numberOf Length = 17
 numberOf Maximum = 18
+numberOf Uncalibrated = 20
 
 -- "where a place is named the offset from the slice's start"
 abbrev pub placeOf : Refusal → Where
@@ -49,6 +50,7 @@ placeOf Room = Nowhere
 placeOf Tag = Nowhere
 placeOf Length = Nowhere
 placeOf Maximum = Nowhere
+placeOf Uncalibrated = Nowhere
 
 -- ---- A reader's failure
 

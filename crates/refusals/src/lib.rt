@@ -1,4 +1,4 @@
-// The numbered refusals of document 01 as one type: each with its number, and with its place where the paper names one.
+// The numbered refusals of document 01 and of the requests as one type: each with its number, and with its place where the paper names one.
 use formats::Failure;
 ghost use mathlib.Core.Path.{_≡_};
 ghost use Rattle.refusals.specs.Table.{numberOf, placeOf, named, refusalOf};
@@ -18,7 +18,7 @@ pub enum Quantity {
     Reading, // a raw number, its E or its F
 }
 
-// The table, in the order of its numbers, 1 to 18.
+// The table, in the order of its numbers: document 01's, 1 to 18, and request L3's, 20.
 pub enum Refusal {
     Short,
     Identifier { place: usize },
@@ -38,6 +38,7 @@ pub enum Refusal {
     Tag,
     Length,
     Maximum,
+    Uncalibrated, // no scaling value, so that the channel's calibration is unknown (7.3.4.3)
 }
 
 // What one stage of judging says.
@@ -69,6 +70,7 @@ pub fn number(refusal: Refusal) -> u8
         Refusal::Tag => 16,
         Refusal::Length => 17,
         Refusal::Maximum => 18,
+        Refusal::Uncalibrated => 20,
     }
 }
 
@@ -95,6 +97,7 @@ pub fn place(refusal: Refusal) -> Where
         Refusal::Tag => Where::Nowhere,
         Refusal::Length => Where::Nowhere,
         Refusal::Maximum => Where::Nowhere,
+        Refusal::Uncalibrated => Where::Nowhere,
     }
 }
 

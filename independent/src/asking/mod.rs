@@ -1,5 +1,6 @@
 //! What is asked of the two programs, one file for each sort of input.
 
+mod calibration;
 mod damage;
 mod files;
 mod joined;
@@ -19,7 +20,7 @@ use crate::random::Random;
 
 pub fn everything(comparison: &mut Comparison, seed: u64) {
     examples::ask_all(comparison);
-    let sorts: [fn(&mut Comparison, &mut Random); 11] = [
+    let sorts: [fn(&mut Comparison, &mut Random); 12] = [
         records::ask_all,
         damage::ask_all,
         joined::ask_all,
@@ -31,6 +32,7 @@ pub fn everything(comparison: &mut Comparison, seed: u64) {
         long_records::ask_all,
         long_writes::ask_all,
         order::ask_all,
+        calibration::ask_all,
     ];
     for (number, ask_all) in sorts.into_iter().enumerate() {
         // Each sort has a seed of its own, so that a change in one leaves the others.

@@ -69,25 +69,17 @@ fn runs_of_numbers(comparison: &Comparison, random: &mut Random) -> Vec<Run> {
     some.chain(all).collect()
 }
 
-/// A scaling value is 2048 * E + F.
+/// A scaling value is 2048 * E + F. Without one there is no reading, so no order to keep.
 fn runs_of_places(comparison: &Comparison, random: &mut Random) -> Vec<Run> {
     let mut scales = of_every_e(random, &[0]);
     scales.extend(around_1000(random, comparison.amount(8)));
-    let mut words: Vec<(i64, i64, String)> = Vec::new();
-    for (e, f) in scales {
-        words.push((e, f, (2048 * e + f).to_string()));
-    }
-    // Without a scaling value the scale is 1, whatever number has no flag.
-    for none in ["!", "!0", "!32768", "!53152", "!53153", "!65535", "!-1"] {
-        words.push((16, 0, none.to_string()));
-    }
-    let run = |(e, f, scale)| Run {
+    let run = |(e, f)| Run {
         e,
         f,
-        scale,
+        scale: (2048 * e + f).to_string(),
         raws: some_raws(comparison, random, e, f),
     };
-    words.into_iter().map(run).collect()
+    scales.into_iter().map(run).collect()
 }
 
 /// E 24 with F 2047 and E 26 with F 0 are among them: only E 25 has both sides of the bound.
@@ -172,7 +164,7 @@ fn distance([first, second]: [&Answered; 2]) -> Option<i64> {
 }
 
 /// The number that the program answered, if it answered with a reading.
-fn reading(answered: &Answered) -> Option<i64> {
+pub fn reading(answered: &Answered) -> Option<i64> {
     let number = answered.theirs.as_deref()?.strip_prefix(b"thousandths ")?;
     words::number(number, words::ANY)
 }

@@ -1,7 +1,9 @@
 //! Readings in thousandths, of numbers and of places.
 
 use crate::compare::Comparison;
+use crate::inputs;
 use crate::random::Random;
+use crate::words::OF_A_CHANNEL;
 
 const NUMBERS: &str = "thousandths";
 const PLACES: &str = "thousandths of places";
@@ -19,7 +21,7 @@ fn ask(comparison: &mut Comparison, raw: i64, e: i64, f: i64) {
 }
 
 /// The ends, one outside, around zero, the paper's own, and some others.
-fn raws(random: &mut Random) -> Vec<i64> {
+pub fn raws(random: &mut Random) -> Vec<i64> {
     let mut raws = vec![-32769, -32768, -32767, -512, -3, -2, -1, 0, 1, 2, 3];
     raws.extend([512, 3199, 32767, 32768, 65534, 65535, 65536]);
     raws.extend((0..4).map(|_| random.between(-32768, 65535)));
@@ -101,6 +103,7 @@ fn places(comparison: &mut Comparison, random: &mut Random) {
         // A number without its flag counts for nothing.
         ask_places(comparison, random, &format!("!{scaling}"));
     }
+    each_sort_with_each(comparison, random);
 }
 
 fn ask_places(comparison: &mut Comparison, random: &mut Random, scaling: &str) {
@@ -110,4 +113,39 @@ fn ask_places(comparison: &mut Comparison, random: &mut Random, scaling: &str) {
     for place in places {
         comparison.ask(PLACES, format!("place {place} {scaling}"));
     }
+}
+
+/// Every sort of place with every sort of number, without its flag and with it.
+fn each_sort_with_each(comparison: &mut Comparison, random: &mut Random) {
+    for _ in 0..comparison.amount(60) {
+        for place in places_of_each_sort(random) {
+            comparison.ask(PLACES, format!("place {place} !"));
+            for number in numbers_of_each_sort(random) {
+                comparison.ask(PLACES, format!("place {place} !{number}"));
+                comparison.ask(PLACES, format!("place {place} {number}"));
+            }
+        }
+    }
+}
+
+/// Absent, constant, and numbers below their range, in it and above it.
+pub fn places_of_each_sort(random: &mut Random) -> [String; 5] {
+    let [below, inside, above] = around(random, (-32768, 65535)).map(|raw| raw.to_string());
+    [".".to_string(), "-".to_string(), below, inside, above]
+}
+
+/// For a scaling value: 0, and numbers below the range, in it and above it.
+pub fn numbers_of_each_sort(random: &mut Random) -> [i64; 4] {
+    let [below, inside, above] = around(random, (0, 65535));
+    [0, below, inside, above]
+}
+
+/// A number below a range, one in it and one above it, of those that a word can hold.
+fn around(random: &mut Random, (low, high): (i64, i64)) -> [i64; 3] {
+    let ranges = [
+        (OF_A_CHANNEL.0, low - 1),
+        (low, high),
+        (high + 1, OF_A_CHANNEL.1),
+    ];
+    ranges.map(|range| inputs::number(random, range))
 }

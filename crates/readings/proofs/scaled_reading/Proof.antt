@@ -1,10 +1,10 @@
--- `readings::scaled_reading` meets its contract: by the attribute's flag and the sign of its number. Assumes nothing.
+-- `readings::scaled_reading` meets its contract: by the scaling value's flag, and behind it by the sign of its number. Assumes nothing.
 use mathlib.Core.Path.{_≡_, refl, _∙_}
 use mathlib.Core.Bool.{true, false}
 use Prim.Native.Nat.{ℕ}
 use native.Mathlib.Omega.{arith}
 use borrow.Author.Needs.{needs}
-use borrow.Author.Tests.{ltb-true}
+use borrow.Author.Tests.{ltb-true, not-true, not-false}
 use lib.Dec.{T}
 use lib.IntN.{ℤ, pos, negsuc, natAbs}
 use lib.Signed.{ltZ, nonNeg}
@@ -40,11 +40,19 @@ natural-number c =
     let s = c .before .before .before in
     natural (s .args .raw) (s .args .scaling .number) (search needs) (rw (read-number s) at (c .if2 .left))
 
+-- where the flag is clear, and where it is set
 returns : tie.Need-returns
 unfolding scaledReading
-returns c =
+returns c = rw (not-true (c .before .before .args .scaling .given) (c .if1 .taken))
+
+given : (c : tie.Else1) → c .before .before .args .scaling .given ≡ true
+given c = not-false (c .before .before .args .scaling .given) (c .if1 .left)
+
+returns-2 : tie.Need-returns-2
+unfolding scaledReading
+returns-2 c =
     let s = c .before .before .before in
-    rw (c .before .before .if1 .taken) (negative (s .args .raw) (s .args .scaling .number) (rw (read-number s) at (c .if2 .taken)))
+    rw (given (c .before)) (negative (s .args .raw) (s .args .scaling .number) (rw (read-number s) at (c .if2 .taken)))
 
 cast-scale-of : tie.Need-cast-scale-of
 cast-scale-of c = rw (read-number (c .before .before .before)) (natural-number c .sign, natural-number c .fits)
@@ -55,30 +63,12 @@ scale-of-requires c κs = search needs
 to-thousandths-requires : tie.Need-to-thousandths-requires
 to-thousandths-requires c κs = search needs
 
-returns-2 : tie.Need-returns-2
-unfolding scaledReading
-returns-2 c =
-    let b = c .before in
-    let s = b .before .before .before .before in
-    rw (b .before .before .before .if1 .taken) (c .to-thousandths .ensures ∙ rw (toZ-ofZ w64 (s .args .raw) (s .fits .raw), b .scale-of .ensures .0, b .scale-of .ensures .1, read-number s) (natural-number (b .before) .reads))
-
-to-thousandths-requires-2 : tie.Need-to-thousandths-requires-2
-to-thousandths-requires-2 c κs = search needs
-
 returns-3 : tie.Need-returns-3
 unfolding scaledReading
 returns-3 c =
-    let s = c .before .before in
-    rw (c .before .if1 .left) (c .to-thousandths2 .ensures ∙ rw (toZ-ofZ w64 (s .args .raw) (s .fits .raw)))
+    let b = c .before in
+    let s = b .before .before .before .before in
+    rw (given (b .before .before)) (c .to-thousandths .ensures ∙ rw (toZ-ofZ w64 (s .args .raw) (s .fits .raw), b .scale-of .ensures .0, b .scale-of .ensures .1, read-number s) (natural-number (b .before) .reads))
 
 pub scaled-reading-spec : {M : Type 1} → statement M
-scaled-reading-spec =
-    tie.close
-    (tie.spec
-    returns
-    cast-scale-of
-    scale-of-requires
-    to-thousandths-requires
-    returns-2
-    to-thousandths-requires-2
-    returns-3)
+scaled-reading-spec = tie.close (tie.spec returns returns-2 cast-scale-of scale-of-requires to-thousandths-requires returns-3)

@@ -57,6 +57,9 @@ enum-told-9 c = search needs
 enum-told-10 : tie.Need-enum-told-10
 enum-told-10 c = search needs
 
+enum-told-11 : tie.Need-enum-told-11
+enum-told-11 c = search needs
+
 returns : tie.Need-returns
 returns c = rw (c .enum-told .given .1)
 
@@ -111,6 +114,9 @@ returns-17 c = rw (c .enum-told9 .given .1)
 returns-18 : tie.Need-returns-18
 returns-18 c = rw (c .enum-told10 .given .1)
 
+returns-19 : tie.Need-returns-19
+returns-19 c = rw (c .enum-told11 .given .1)
+
 pub place-spec : {M : Type 1} → statement M
 place-spec =
     tie.close
@@ -133,6 +139,7 @@ place-spec =
     enum-told-8
     enum-told-9
     enum-told-10
+    enum-told-11
     returns
     returns-2
     returns-3
@@ -150,4 +157,5 @@ place-spec =
     returns-15
     returns-16
     returns-17
-    returns-18)
+    returns-18
+    returns-19)

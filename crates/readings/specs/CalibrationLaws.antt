@@ -1,0 +1,65 @@
+-- A channel without a scaling value has no reading: the flag is asked before anything else, and what is read behind it is a number or 12.
+use mathlib.Core.Path.{_≡_, refl, sym}
+use mathlib.Core.Logic.{_↔_, _≢_}
+use mathlib.Core.Bool.{Bool, true, false, cond}
+use Prim.Native.Nat.{ℕ}
+use lib.IntN.{ℤ, pos, negsuc}
+use Rattle.formats.specs.Bytes.{impossible}
+use Rattle.channels.specs.declared.Attribute.{Attribute}
+use Rattle.channels.specs.declared.Place.the-variants.{Absent, Constant, Number}
+use Rattle.readings.specs.Thousandths.{value, outside, uncalibrated, thousandths, defined, reading, readingBy, scaledReading, placeReading}
+use Rattle.readings.specs.Calibration.{UncalibratedExactly, CalibratedOnly}
+
+-- ---- What is not 20
+
+number-or-outside : (raw : ℤ) (e f : ℕ) → reading raw e f ≢ uncalibrated
+unfolding reading
+number-or-outside raw e f = go (defined raw e f)
+  where
+    go : (t : Bool) → cond t (value (thousandths raw e f)) outside ≢ uncalibrated
+    go true h = impossible (cc)
+    go false h = impossible (cc)
+
+by-a-value : (raw number : ℤ) → readingBy raw number ≢ uncalibrated
+unfolding readingBy
+by-a-value raw (pos number) h = number-or-outside raw _ _ h
+by-a-value raw (negsuc number) h = impossible (cc)
+
+-- ---- By the flag
+
+clear : (raw : ℤ) (scaling : Attribute) → scaling .given ≡ false → scaledReading raw scaling ≡ uncalibrated
+unfolding scaledReading
+clear raw scaling h = rw h
+
+only-clear : (raw : ℤ) (scaling : Attribute) → scaledReading raw scaling ≡ uncalibrated → scaling .given ≡ false
+unfolding scaledReading
+only-clear raw scaling h = go (scaling .given) h
+  where
+    go : (given : Bool) → cond given (readingBy raw (scaling .number)) uncalibrated ≡ uncalibrated → given ≡ false
+    go true k = absurd (by-a-value raw (scaling .number) k)
+    go false k = refl
+
+only-given : (raw : ℤ) (scaling : Attribute) (x : ℤ) → value x ≡ scaledReading raw scaling → scaling .given ≡ true
+unfolding scaledReading
+only-given raw scaling x h = go (scaling .given) h
+  where
+    go : (given : Bool) → value x ≡ cond given (readingBy raw (scaling .number)) uncalibrated → given ≡ true
+    go true k = refl
+    go false k = impossible (cc)
+
+-- ---- The claims
+
+present : (raw : ℤ) (scaling : Attribute) {There : Type 0} → There → (uncalibrated ≡ scaledReading raw scaling) ↔ (There × (scaling .given ≡ false))
+present raw scaling there = (λ h. (there, only-clear raw scaling (sym h)), λ h. sym (clear raw scaling (h .1)))
+
+pub uncalibrated-exactly : UncalibratedExactly
+unfolding placeReading
+uncalibrated-exactly Absent scaling = (λ h. impossible (cc), λ h. absurd (h .0 refl))
+uncalibrated-exactly Constant scaling = present (pos 1) scaling (λ e. impossible (cc))
+uncalibrated-exactly (Number raw) scaling = present raw scaling (λ e. impossible (cc))
+
+pub calibrated-only : CalibratedOnly
+unfolding placeReading
+calibrated-only Absent scaling x h = impossible (cc)
+calibrated-only Constant scaling x h = only-given (pos 1) scaling x h
+calibrated-only (Number raw) scaling x h = only-given raw scaling x h
