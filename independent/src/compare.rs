@@ -1,9 +1,9 @@
 //! Asks the two programs, compares every answer, shows differences and counts.
 
-use std::collections::BTreeMap;
-use std::io::{Read, Write};
-use std::process::{Command, Stdio};
-use std::thread;
+use std::collections::{BTreeMap, VecDeque};
+use std::io::{self, Read, Write};
+use std::process::{Child, Command, Stdio};
+use std::thread::{self, JoinHandle};
 
 use crate::answers;
 use crate::listing;
@@ -11,9 +11,12 @@ use crate::listing;
 /// How many differences are shown, and how many broken claims of a kind; all are counted.
 const SHOWN: usize = 20;
 const CLAIMS_SHOWN: usize = 5;
-/// A process of `ask` gets at most so many questions, and about so many bytes of them.
-const QUESTIONS: usize = 40_000;
-const BYTES: usize = 32_000_000;
+/// A process of `ask` gets at most so many questions, and about so many bytes of them: few, so that
+/// those behind it need not wait long to be settled.
+const QUESTIONS: usize = 2_000;
+const BYTES: usize = 2_000_000;
+/// At most so many processes are under way, however many processors there are.
+const PROCESSES: usize = 4;
 
 /// The two programs, and words to put before them (an emulator's).
 pub struct Programs {
@@ -35,6 +38,24 @@ pub struct Answered {
     pub theirs: Option<Vec<u8>>,
 }
 
+/// What is wanted of a process, which says how its output is settled.
+enum Wanted {
+    /// Of `list`: its whole output is one answer.
+    Listing,
+    /// Of `ask`: a line of its output is an answer.
+    Answers,
+    /// Of `ask` too, and its answers are kept, so that claims can be judged on them.
+    KeptAnswers,
+}
+
+/// A process that was started and isn't settled yet, with what it was asked. The thread gives
+/// its output, and whether it ended well.
+struct UnderWay {
+    wanted: Wanted,
+    asked: Vec<Asked>,
+    process: JoinHandle<(Vec<u8>, bool)>,
+}
+
 /// How many comparisons of a kind were made, and how many of them failed.
 struct Kind {
     name: &'static str,
@@ -48,6 +69,11 @@ pub struct Comparison {
     cases: usize,
     waiting: Vec<Asked>,
     waiting_bytes: usize,
+    /// In the order in which they were started, and how many there may be.
+    under_way: VecDeque<UnderWay>,
+    most_under_way: usize,
+    /// What settled processes answered, where claims are to be judged on it.
+    kept: Vec<Answered>,
     kinds: Vec<Kind>,
     /// How often each answer was expected, by its first words.
     expected: BTreeMap<String, usize>,
@@ -57,11 +83,15 @@ pub struct Comparison {
 
 impl Comparison {
     pub fn new(programs: Option<Programs>, cases: usize) -> Comparison {
+        let processors = thread::available_parallelism().map_or(1, usize::from);
         Comparison {
             programs,
             cases,
             waiting: Vec::new(),
             waiting_bytes: 0,
+            under_way: VecDeque::new(),
+            most_under_way: processors.min(PROCESSES),
+            kept: Vec::new(),
             kinds: Vec::new(),
             expected: BTreeMap::new(),
             passed: 0,
@@ -97,31 +127,22 @@ impl Comparison {
     pub fn answers_to(&mut self, kind: &'static str, lines: &[String]) -> Vec<Answered> {
         // What waits was asked before them.
         self.flush();
-        let mut answered = Vec::new();
         for lines in lines.chunks(QUESTIONS) {
             let questions = lines.iter().map(|line| line.as_bytes().to_vec());
-            let asked = questions.map(|line| self.work_out(kind, line)).collect();
-            answered.extend(self.answered(asked));
+            let asked: Vec<Asked> = questions.map(|line| self.work_out(kind, line)).collect();
+            if self.programs.is_some() {
+                let input = lines_of(&asked);
+                self.start(Wanted::KeptAnswers, asked, input);
+            } else {
+                // This program's own answers while it only checks itself.
+                self.kept.extend(asked.into_iter().map(|each| Answered {
+                    question: each.question,
+                    theirs: Some(each.answer.into_bytes()),
+                }));
+            }
         }
-        answered
-    }
-
-    /// The answers of one process; this program's own while it only checks itself.
-    fn answered(&mut self, asked: Vec<Asked>) -> Vec<Answered> {
-        if self.programs.is_none() {
-            let itself = |each: Asked| Answered {
-                question: each.question,
-                theirs: Some(each.answer.into_bytes()),
-            };
-            return asked.into_iter().map(itself).collect();
-        }
-        let output = self.run_ask(&asked, lines_of(&asked));
-        let mut lines = output.split(|byte| *byte == b'\n');
-        let with_theirs = |each: Asked| Answered {
-            question: each.question,
-            theirs: lines.next().map(<[u8]>::to_vec),
-        };
-        asked.into_iter().map(with_theirs).collect()
+        self.settle_all();
+        std::mem::take(&mut self.kept)
     }
 
     /// Counts one claim on two answers of the program, and shows it where it does not hold.
@@ -132,6 +153,8 @@ impl Comparison {
         answered: [&Answered; 2],
         holds: bool,
     ) {
+        // What was started before is shown before.
+        self.settle_all();
         let counted = self.kind(kind);
         counted.made += 1;
         if holds {
@@ -169,9 +192,7 @@ impl Comparison {
             answer,
         };
         let asked: Vec<Asked> = lines.zip(answers::all(&input)).map(of).collect();
-        if self.programs.is_some() {
-            self.run_ask(&asked, input);
-        }
+        self.start(Wanted::Answers, asked, input);
     }
 
     fn wait(&mut self, asked: Asked) {
@@ -184,22 +205,93 @@ impl Comparison {
         }
     }
 
-    /// Asks the questions that wait, in one process.
+    /// Starts a process for the questions that wait.
     pub fn flush(&mut self) {
         let asked = std::mem::take(&mut self.waiting);
         self.waiting_bytes = 0;
         if asked.is_empty() {
             return;
         }
-        self.run_ask(&asked, lines_of(&asked));
+        let input = lines_of(&asked);
+        self.start(Wanted::Answers, asked, input);
     }
 
-    /// Compares the answers of one process, and gives back its output.
-    fn run_ask(&mut self, asked: &[Asked], input: Vec<u8>) -> Vec<u8> {
+    /// Starts a process and leaves it under way. If there are as many as there may be, the oldest
+    /// is settled first.
+    fn start(&mut self, wanted: Wanted, asked: Vec<Asked>, input: Vec<u8>) {
+        while self.under_way.len() >= self.most_under_way {
+            self.settle_oldest();
+        }
         let Some(programs) = &self.programs else {
-            return Vec::new();
+            return;
         };
-        let (output, ended_well) = run(&programs.wrapper, &programs.ask, input);
+        let program = match wanted {
+            Wanted::Listing => &programs.list,
+            Wanted::Answers | Wanted::KeptAnswers => &programs.ask,
+        };
+        let child = match spawn(&programs.wrapper, program) {
+            Ok(child) => child,
+            Err(error) => {
+                let text = format!("cannot run {program}: {error}");
+                // What was started before is shown before.
+                self.settle_all();
+                eprintln!("{text}");
+                std::process::exit(2);
+            }
+        };
+        // Kinds are shown in the order in which they were first asked, not settled.
+        for each in &asked {
+            self.kind(each.kind);
+        }
+        let process = thread::spawn(move || output_of(child, input));
+        self.under_way.push_back(UnderWay {
+            wanted,
+            asked,
+            process,
+        });
+    }
+
+    fn settle_all(&mut self) {
+        while !self.under_way.is_empty() {
+            self.settle_oldest();
+        }
+    }
+
+    /// Waits for the process that was started first, and compares its answers. Only here are
+    /// processes settled, so what is shown doesn't depend on which of them ends first.
+    fn settle_oldest(&mut self) {
+        let Some(oldest) = self.under_way.pop_front() else {
+            return;
+        };
+        // If the thread itself broke off, there is no output and the process did not end well.
+        let (output, ended_well) = oldest.process.join().unwrap_or_default();
+        let asked = oldest.asked;
+        let program = match oldest.wanted {
+            Wanted::Listing => {
+                for each in &asked {
+                    self.settle(each, Some(&output));
+                }
+                "list"
+            }
+            Wanted::Answers | Wanted::KeptAnswers => {
+                self.settle_lines(&asked, &output);
+                "ask"
+            }
+        };
+        if !ended_well {
+            self.fail(&format!("{program}: the process did not end well"));
+        }
+        if matches!(oldest.wanted, Wanted::KeptAnswers) {
+            let mut lines = output.split(|byte| *byte == b'\n');
+            self.kept.extend(asked.into_iter().map(|each| Answered {
+                question: each.question,
+                theirs: lines.next().map(<[u8]>::to_vec),
+            }));
+        }
+    }
+
+    /// Compares the answers of one process of `ask`.
+    fn settle_lines(&mut self, asked: &[Asked], output: &[u8]) {
         let mut lines = output.split(|byte| *byte == b'\n');
         for each in asked {
             self.settle(each, lines.next());
@@ -209,10 +301,6 @@ impl Comparison {
         if behind != [b"".as_slice()] {
             self.fail("ask: answers that no question asked for, or no line feed at the end");
         }
-        if !ended_well {
-            self.fail("ask: the process did not end well");
-        }
-        output
     }
 
     /// A file whose listing is worked out here.
@@ -235,22 +323,15 @@ impl Comparison {
     }
 
     fn list_expecting(&mut self, kind: &'static str, file: &[u8], listing: String) {
-        let Some(programs) = &self.programs else {
+        if self.programs.is_none() {
             return;
-        };
-        let (output, ended_well) = run(&programs.wrapper, &programs.list, file.to_vec());
-        let question = format!("list {}", answers::digits(file)).into_bytes();
-        self.settle(
-            &Asked {
-                kind,
-                question,
-                answer: listing,
-            },
-            Some(&output),
-        );
-        if !ended_well {
-            self.fail("list: the process did not end well");
         }
+        let asked = Asked {
+            kind,
+            question: format!("list {}", answers::digits(file)).into_bytes(),
+            answer: listing,
+        };
+        self.start(Wanted::Listing, vec![asked], file.to_vec());
     }
 
     fn expect(&mut self, answer: &str) {
@@ -305,6 +386,7 @@ impl Comparison {
     /// The counts; the last line says how many passed and failed.
     pub fn finish(mut self) -> bool {
         self.flush();
+        self.settle_all();
         for Kind { name, made, failed } in &self.kinds {
             match failed {
                 0 => println!("{name}: {made}"),
@@ -326,22 +408,18 @@ fn lines_of(asked: &[Asked]) -> Vec<u8> {
     input
 }
 
-/// The program's output, and whether it ended well. Input is written from a thread, so that
-/// a full pipe cannot stop both sides.
-fn run(wrapper: &[String], program: &str, input: Vec<u8>) -> (Vec<u8>, bool) {
+fn spawn(wrapper: &[String], program: &str) -> io::Result<Child> {
     let mut words = wrapper.iter().map(String::as_str).chain([program]);
-    let mut command = Command::new(words.next().unwrap_or(program));
-    command
+    Command::new(words.next().unwrap_or(program))
         .args(words)
         .stdin(Stdio::piped())
-        .stdout(Stdio::piped());
-    let mut child = match command.spawn() {
-        Ok(child) => child,
-        Err(error) => {
-            eprintln!("cannot run {program}: {error}");
-            std::process::exit(2);
-        }
-    };
+        .stdout(Stdio::piped())
+        .spawn()
+}
+
+/// The program's output, and whether it ended well. Input is written from a thread, so that
+/// a full pipe cannot stop both sides.
+fn output_of(mut child: Child, input: Vec<u8>) -> (Vec<u8>, bool) {
     let pipe = child.stdin.take();
     let writer = thread::spawn(move || {
         // The program may stop reading early: `list` does once a file is too large.
