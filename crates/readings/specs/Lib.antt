@@ -1,13 +1,13 @@
 -- `Thousandths`: the meaning of a reading. `NearestLaws`: what "nearest" is, and that nothing else is. `Laws`: what follows for readings, their ends, and scaling values.
--- `Order`: what is claimed of the order of readings. `OrderLaws`: that it is so, and that its bound is sharp.
 -- `Calibration`: what is claimed of a channel without a scaling value. `CalibrationLaws`: that it is so.
+-- `Order`: what is claimed of the order of readings. `OrderLaws`: that it is so, and that its bound is sharp.
 -- `Answers`: no second answer meets a promise. `Examples`: the scope's readings, but for P12, and the request's.
 pub mod Thousandths
 pub mod NearestLaws
 pub mod Laws
-pub mod Order
-pub mod OrderLaws
 pub mod Calibration
 pub mod CalibrationLaws
+pub mod Order
+pub mod OrderLaws
 pub mod Answers
 pub mod Examples

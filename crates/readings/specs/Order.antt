@@ -8,7 +8,8 @@ use Rattle.channels.specs.declared.Attribute.{Attribute}
 use Rattle.channels.specs.declared.Place.the-variants.{Number}
 use Rattle.readings.specs.declared.Reading.the-variants.{Thousandths}
 use Rattle.readings.specs.declared.PlaceReading.the-variants.{Present}
-use Rattle.readings.specs.Thousandths.{told, toldPlace, reading, placeReading, exponentOf, fractionOf}
+use Rattle.readings.specs.Thousandths.{told, reading, exponentOf, fractionOf}
+use Rattle.readings.specs.Calibration.{Answers}
 
 -- ---- What reads as what: the promise of each function, where its answer is a reading
 
@@ -18,7 +19,7 @@ ReadsAs e f raw x = told (Thousandths x) ≡ reading raw e f
 
 -- place_thousandths, of a number place and its channel's scaling value, answers `Present(Thousandths(x))`
 abbrev pub PlaceReadsAs : (scaling : Attribute) (raw x : ℤ) → Type 0
-PlaceReadsAs scaling raw x = toldPlace (Present (Thousandths x)) ≡ placeReading (Number raw) scaling
+PlaceReadsAs scaling raw x = Answers (Number raw) scaling (Present (Thousandths x))
 
 -- ---- The claims
 

@@ -91,10 +91,10 @@ fn scaled_reading(raw: i64, scaling: Attribute) -> Reading
     ensures { λ r. ⌜ told r ≡ scaledReading raw scaling ⌝ }
 {
     let given = scaling.given;
-    let number = scaling.number;
     if !given {
         return UNCALIBRATED;
     }
+    let number = scaling.number;
     if number < 0 {
         return OUTSIDE;
     }

@@ -43,16 +43,16 @@ natural-number c =
 -- where the flag is clear, and where it is set
 returns : tie.Need-returns
 unfolding scaledReading
-returns c = rw (not-true (c .before .before .args .scaling .given) (c .if1 .taken))
+returns c = rw (not-true (c .before .args .scaling .given) (c .if1 .taken))
 
-given : (c : tie.Else1) → c .before .before .args .scaling .given ≡ true
-given c = not-false (c .before .before .args .scaling .given) (c .if1 .left)
+given : (c : tie.Else1) → c .before .args .scaling .given ≡ true
+given c = not-false (c .before .args .scaling .given) (c .if1 .left)
 
 returns-2 : tie.Need-returns-2
 unfolding scaledReading
 returns-2 c =
     let s = c .before .before .before in
-    rw (given (c .before)) (negative (s .args .raw) (s .args .scaling .number) (rw (read-number s) at (c .if2 .taken)))
+    rw (given (c .before .before)) (negative (s .args .raw) (s .args .scaling .number) (rw (read-number s) at (c .if2 .taken)))
 
 cast-scale-of : tie.Need-cast-scale-of
 cast-scale-of c = rw (read-number (c .before .before .before)) (natural-number c .sign, natural-number c .fits)
@@ -68,7 +68,7 @@ unfolding scaledReading
 returns-3 c =
     let b = c .before in
     let s = b .before .before .before .before in
-    rw (given (b .before .before)) (c .to-thousandths .ensures ∙ rw (toZ-ofZ w64 (s .args .raw) (s .fits .raw), b .scale-of .ensures .0, b .scale-of .ensures .1, read-number s) (natural-number (b .before) .reads))
+    rw (given (b .before .before .before)) (c .to-thousandths .ensures ∙ rw (toZ-ofZ w64 (s .args .raw) (s .fits .raw), b .scale-of .ensures .0, b .scale-of .ensures .1, read-number s) (natural-number (b .before) .reads))
 
 pub scaled-reading-spec : {M : Type 1} → statement M
 scaled-reading-spec = tie.close (tie.spec returns returns-2 cast-scale-of scale-of-requires to-thousandths-requires returns-3)
