@@ -108,14 +108,14 @@ fn write(words: &mut Words) -> Read<String> {
 }
 
 /// Every byte of the room was AA before, and those not written are so still.
-fn written(result: Result<Vec<u8>, u8>, room: usize) -> String {
+fn written(result: Result<Vec<u8>, Refusal>, room: usize) -> String {
     let mut output = vec![0xAA; room];
     match result {
         Ok(bytes) => {
             output.splice(..bytes.len().min(room), bytes.iter().copied());
             format!("written {} {}", bytes.len(), hex(&output))
         }
-        Err(number) => format!("refused {number} {}", hex(&output)),
+        Err(refusal) => format!("{} {}", refusal.text(), hex(&output)),
     }
 }
 
@@ -169,8 +169,8 @@ fn of_numbers(words: &mut Words) -> Read<String> {
     let f = words.number(words::NOT_NEGATIVE)?;
     words.end()?;
     Ok(match thousandths(raw, e, f) {
-        Some(number) => format!("thousandths {number}"),
-        None => "refused 12".to_string(),
+        Ok(number) => format!("thousandths {number}"),
+        Err(refusal) => refusal.text(),
     })
 }
 
@@ -182,6 +182,6 @@ fn place(words: &mut Words) -> Read<String> {
     Ok(match of_place(place, scaling) {
         Reading::Absent => "absent".to_string(),
         Reading::Thousandths(number) => format!("thousandths {number}"),
-        Reading::Refused(number) => format!("refused {number}"),
+        Reading::Refused(refusal) => refusal.text(),
     })
 }

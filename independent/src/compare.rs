@@ -38,6 +38,9 @@ pub struct Answered {
     pub theirs: Option<Vec<u8>>,
 }
 
+/// The kind that a claim is counted as, and what it says.
+pub type Claim = (&'static str, &'static str);
+
 /// What is wanted of a process, which says how its output is settled.
 enum Wanted {
     /// Of `list`: its whole output is one answer.
@@ -145,14 +148,8 @@ impl Comparison {
         std::mem::take(&mut self.kept)
     }
 
-    /// Counts one claim on two answers of the program, and shows it where it does not hold.
-    pub fn claim(
-        &mut self,
-        kind: &'static str,
-        claim: &str,
-        answered: [&Answered; 2],
-        holds: bool,
-    ) {
+    /// Counts one claim on answers of the program, and shows it where it does not hold.
+    pub fn claim(&mut self, (kind, says): Claim, answered: &[&Answered], holds: bool) {
         // What was started before is shown before.
         self.settle_all();
         let counted = self.kind(kind);
@@ -163,7 +160,7 @@ impl Comparison {
         }
         counted.failed += 1;
         if counted.failed <= CLAIMS_SHOWN {
-            println!("{}", broken(kind, claim, answered));
+            println!("{}", broken(kind, says, answered));
         }
         self.failed += 1;
     }
@@ -457,19 +454,17 @@ fn difference(asked: &Asked, theirs: Option<&[u8]>) -> String {
     format!("{head}\n  ours:   {ours}\n  theirs: {theirs}\n  first difference at byte {same}")
 }
 
-/// A claim that does not hold, with both questions and what the program answered.
-fn broken(kind: &str, claim: &str, answered: [&Answered; 2]) -> String {
-    let shown = answered.map(|Answered { question, theirs }| {
+/// A claim that does not hold, with its questions and what the program answered.
+fn broken(kind: &str, claim: &str, answered: &[&Answered]) -> String {
+    let show = |Answered { question, theirs }: &Answered| {
         let theirs = match theirs {
             Some(theirs) => cut(theirs, 0, 400),
             None => "no answer".to_string(),
         };
         format!("\n  asked:  {}\n  theirs: {theirs}", cut(question, 0, 2000))
-    });
-    format!(
-        "broken claim in {kind}{}\n  claim:  {claim}",
-        shown.concat()
-    )
+    };
+    let shown: String = answered.iter().map(|each| show(each)).collect();
+    format!("broken claim in {kind}{shown}\n  claim:  {claim}")
 }
 
 /// A long text is cut to its beginning and the part around `middle`.

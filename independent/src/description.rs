@@ -4,6 +4,7 @@
 use crate::channels::{bit, CHANNELS, S, X, Y};
 use crate::cursor::Cursor;
 use crate::refusal::Refusal;
+use crate::which::{check, Which};
 
 /// The attributes in the order of descriptor bits 8 to 4 (002, table 5).
 pub const ATTRIBUTES: [&str; 5] = ["scaling", "minimum", "maximum", "mean", "deviation"];
@@ -116,20 +117,19 @@ fn read_channel(cursor: &mut Cursor, format: Format, channel: usize) -> Result<S
     Ok(said)
 }
 
-/// The writers' judgement: 4, then 11 anywhere, then 12 anywhere.
-pub fn judge(description: &Description, format: Format) -> Result<(), u8> {
+/// The writers' judgement: 4, then 11 anywhere, then 12 for the first number in stored order
+/// that is out of its range, channel after channel.
+pub fn judge(description: &Description, format: Format) -> Result<(), Refusal> {
     if !description[X].included || !description[Y].included {
-        return Err(4);
+        return Err(Refusal::bare(4));
     }
     if !description.iter().all(tidy) {
-        return Err(11);
+        return Err(Refusal::bare(11));
     }
-    let good = |channel: usize| in_range(&description[channel], format, channel);
-    if (0..16).all(good) {
-        Ok(())
-    } else {
-        Err(12)
+    for (channel, said) in description.iter().enumerate() {
+        judge_attributes(said, format, channel)?;
     }
+    Ok(())
 }
 
 /// A place that its flags don't use holds zero; a channel not included has no flag.
@@ -141,13 +141,15 @@ fn tidy(said: &Said) -> bool {
     !(0..5).any(unused)
 }
 
-fn in_range(said: &Said, format: Format, channel: usize) -> bool {
-    (0..5)
-        .filter(|&attribute| said.given[attribute])
-        .all(|attribute| {
-            let (low, high) = attribute_range(format, channel, attribute);
-            (low..=high).contains(&said.numbers[attribute])
-        })
+/// In a channel the attributes go in the order of their bits. A number without its flag is
+/// never judged.
+fn judge_attributes(said: &Said, format: Format, channel: usize) -> Result<(), Refusal> {
+    for attribute in (0..5).filter(|&attribute| said.given[attribute]) {
+        let (low, high) = attribute_range(format, channel, attribute);
+        let which = Which::Attribute { channel, attribute };
+        check(which, said.numbers[attribute], low..=high)?;
+    }
+    Ok(())
 }
 
 /// The bytes of a description that `judge` finds good.

@@ -1,12 +1,14 @@
 //! Examples with answers typed from the papers, never worked out here.
 
 use crate::compare::Comparison;
+use crate::naming_examples::NAMING_EXAMPLES;
 
 const SCOPE: &str = "examples of document 01";
 const ASK: &str = "examples of the paper on ask";
 const ANNEX: &str = "examples of annex C";
 const ORDER: &str = "examples of request L11";
 const CALIBRATION: &str = "examples of request L3";
+const NAMING: &str = "examples of request L2";
 
 /// M of document 01: a record with no points.
 const M: &[u8] = &[
@@ -26,6 +28,7 @@ pub fn ask_all(comparison: &mut Comparison) {
         (ANNEX, ANNEX_EXAMPLES),
         (ORDER, ORDER_EXAMPLES),
         (CALIBRATION, CALIBRATION_EXAMPLES),
+        (NAMING, NAMING_EXAMPLES),
     ] {
         for (line, answer) in examples {
             comparison.ask_typed(kind, line, answer);
@@ -35,7 +38,7 @@ pub fn ask_all(comparison: &mut Comparison) {
     listings(comparison);
 }
 
-type Typed = &'static [(&'static str, &'static str)];
+pub type Typed = &'static [(&'static str, &'static str)];
 
 /// P1 to P12, then those 'run and compared'.
 const SCOPE_EXAMPLES: Typed = &[
@@ -102,7 +105,7 @@ const SCOPE_EXAMPLES: Typed = &[
     ("thousandths 512 26 0", "thousandths 500"),
     ("thousandths 65535 0 0", "thousandths 4294901760000"),
     ("thousandths -32768 31 2047", "thousandths -500"),
-    ("thousandths 65536 16 0", "refused 12"),
+    ("thousandths 65536 16 0", "refused 12 raw"),
     // The slips of document 01: 7F FF in X, a constant channel without bytes, the deviation
     // of X without an offset, and a fifth byte that already decides.
     ("judge 53 44 49 00 21", "refused 3 4"),
@@ -147,6 +150,15 @@ const ASK_EXAMPLES: Typed = &[
     ("place - 55200", "thousandths 1"),
     ("place - !", "refused 20"),
     ("judge 53 45", "refused 2 1"),
+    (
+        "write 2 0,0,0,32768 ! 2 X Y.minimum=-5",
+        "refused 12 value 3 Y AAAA",
+    ),
+    (
+        "write-template 16777216 0 X Y.minimum=-129",
+        "refused 12 Y minimum -",
+    ),
+    ("thousandths 65536 32 0", "refused 12 raw"),
 ];
 
 /// C.1 has F before DT; read by the clause its bytes give DT the range and F the scale
@@ -300,8 +312,8 @@ const CALIBRATION_EXAMPLES: Typed = &[
     ("place 0 0", "thousandths 0"),
     ("place 65535 0", "thousandths 4294901760000"),
     ("place -32768 0", "thousandths -2147483648000"),
-    ("place 65536 0", "refused 12"),
-    ("place -32769 0", "refused 12"),
+    ("place 65536 0", "refused 12 raw"),
+    ("place -32769 0", "refused 12 raw"),
     // E 0, F 1: 2^27 * 1000 / 2049. 2049 * 65504015 is 134217726735, which leaves 1265 of
     // 134217728000, more than a half of 2049.
     ("place - 1", "thousandths 65504016"),
@@ -311,25 +323,25 @@ const CALIBRATION_EXAMPLES: Typed = &[
     ("place -5 32768", "thousandths -5000"),
     ("place 0 32768", "thousandths 0"),
     ("place 65535 32768", "thousandths 65535000"),
-    ("place 65536 32768", "refused 12"),
-    ("place -32769 32768", "refused 12"),
+    ("place 65536 32768", "refused 12 raw"),
+    ("place -32769 32768", "refused 12 raw"),
     // 65535 is E 31, F 2047, scale 65520: 1000 / 65520 is below a half, 32768000 / 65520 is
     // 500 and 8000 / 65520, 65535000 / 65520 is 1000 and 15000 / 65520.
     ("place - 65535", "thousandths 0"),
     ("place -32768 65535", "thousandths -500"),
     ("place 65535 65535", "thousandths 1000"),
-    ("place 65536 65535", "refused 12"),
-    // Given and out of range is 12, for a constant too.
-    ("place - 65536", "refused 12"),
-    ("place - -1", "refused 12"),
-    ("place - 2147483647", "refused 12"),
-    ("place - -2147483648", "refused 12"),
-    ("place 5 65536", "refused 12"),
-    ("place 5 -1", "refused 12"),
-    ("place 5 -32768", "refused 12"),
-    ("place 65536 65536", "refused 12"),
-    ("place 70000 -1", "refused 12"),
-    ("place -32769 -1", "refused 12"),
+    ("place 65536 65535", "refused 12 raw"),
+    // Given and out of range is 12, for a constant too; raw is judged before it.
+    ("place - 65536", "refused 12 E"),
+    ("place - -1", "refused 12 E"),
+    ("place - 2147483647", "refused 12 E"),
+    ("place - -2147483648", "refused 12 E"),
+    ("place 5 65536", "refused 12 E"),
+    ("place 5 -1", "refused 12 E"),
+    ("place 5 -32768", "refused 12 E"),
+    ("place 65536 65536", "refused 12 raw"),
+    ("place 70000 -1", "refused 12 raw"),
+    ("place -32769 -1", "refused 12 raw"),
     // `-0` is 0, as a place, as a scaling value and as a number without its flag.
     ("place -0 !", "refused 20"),
     ("place - !-0", "refused 20"),
@@ -338,9 +350,9 @@ const CALIBRATION_EXAMPLES: Typed = &[
     // From raw, E and F it is as it was: 12 only, and scale 1 and scale 2^-16 are read.
     ("thousandths 1 16 0", "thousandths 1000"),
     ("thousandths 1 0 0", "thousandths 65536000"),
-    ("thousandths 65536 0 0", "refused 12"),
-    ("thousandths 1 32 0", "refused 12"),
-    ("thousandths 1 0 2048", "refused 12"),
+    ("thousandths 65536 0 0", "refused 12 raw"),
+    ("thousandths 1 32 0", "refused 12 E"),
+    ("thousandths 1 0 2048", "refused 12 F"),
 ];
 
 /// C.1 with all of its 475 points, the third one standing for those not printed.
@@ -588,6 +600,6 @@ pub const UNREADABLE: Typed = &[
     ),
     ("place . 70000", "absent"),
     ("place - !70000", "refused 20"),
-    ("place 5 -1", "refused 12"),
+    ("place 5 -1", "refused 12 E"),
     ("place 65536 !", "refused 20"),
 ];

@@ -1,11 +1,13 @@
 //! The check of this program by itself, before there is any other: what it writes it reads
 //! back, what it reads it writes again, its readings keep the order of request L11, it has none
-//! without a scaling value (request L3), and the typed answers are its own.
+//! without a scaling value (request L3), it names the numbers out of range in stored order
+//! (request L2), and the typed answers are its own.
 
 use crate::asking;
 use crate::compare::Comparison;
 use crate::description::stored;
 use crate::inputs;
+use crate::mending;
 use crate::random::Random;
 use crate::record::{self, Place, Record};
 use crate::refusal::Refusal;
@@ -15,13 +17,13 @@ use crate::thousandths::{ES, FS, RAWS};
 use crate::writing::{self, Parts, LONGEST_EXTENDED};
 
 #[derive(Default)]
-struct Counts {
+pub struct Counts {
     good: usize,
     bad: usize,
 }
 
 impl Counts {
-    fn check(&mut self, what: &str, good: bool) {
+    pub fn check(&mut self, what: &str, good: bool) {
         if good {
             self.good += 1;
             return;
@@ -45,6 +47,7 @@ pub fn check(seed: u64, cases: usize) -> bool {
         template_there_and_back(&mut counts, &mut random);
         nearest(&mut counts, &mut random);
         calibration(&mut counts, &mut random);
+        mending::check(&mut counts, &mut random);
     }
     for _ in 0..cases.div_ceil(5) {
         let mut parts = inputs::any_parts(&mut random);
@@ -131,7 +134,7 @@ fn template_there_and_back(counts: &mut Counts, random: &mut Random) {
 fn nearest(counts: &mut Counts, random: &mut Random) {
     let raw = random.between(-32768, 65535);
     let (e, f) = (random.between(0, 31), random.between(0, 2047));
-    let Some(reading) = thousandths(raw, e, f) else {
+    let Ok(reading) = thousandths(raw, e, f) else {
         return counts.check("a reading is defined", false);
     };
     let exact = i128::from(raw) * 1000 * (1 << 27);
@@ -148,9 +151,9 @@ fn calibration(counts: &mut Counts, random: &mut Random) {
     let (e, f) = (random.between(-2, 33), random.between(0, 2047));
     let scaling = Some(2048 * e + f);
     for (place, raw) in [(Place::Constant, 1), (Place::Number(raw), raw)] {
-        let without = of_place(place, None) == Reading::Refused(20);
+        let without = of_place(place, None) == Reading::Refused(Refusal::bare(20));
         counts.check("without a scaling value there is no reading", without);
-        let of_numbers = thousandths(raw, e, f).map_or(Reading::Refused(12), Reading::Thousandths);
+        let of_numbers = thousandths(raw, e, f).map_or_else(Reading::Refused, Reading::Thousandths);
         let with = of_place(place, scaling) == of_numbers;
         counts.check("with a scaling value raw, E and F are read", with);
     }
@@ -180,7 +183,7 @@ fn order(counts: &mut Counts, random: &mut Random, cases: usize) {
 
 /// From the first raw number's reading to the second's, if there are both.
 fn distance(first: i64, second: i64, e: i64, f: i64) -> Option<i128> {
-    Some(thousandths(second, e, f)? - thousandths(first, e, f)?)
+    Some(thousandths(second, e, f).ok()? - thousandths(first, e, f).ok()?)
 }
 
 fn keeps_order(step: &Option<i128>) -> bool {

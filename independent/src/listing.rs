@@ -2,6 +2,7 @@
 
 use crate::description::point_size;
 use crate::record::{self, Place, Record, Step};
+use crate::refusal::Carried;
 
 pub const LARGEST: usize = 65536;
 
@@ -21,10 +22,10 @@ pub fn list(file: &[u8]) -> String {
             Step::End => return text + &format!("end {place}\n"),
             Step::Refused(refusal) => {
                 return text
-                    + &match refusal.place {
-                        Some(at) => format!("refused {} {at}\n", refusal.number),
+                    + &match refusal.carried {
+                        Carried::Place(_) => format!("{}\n", refusal.text()),
                         // Short is the only refusal of a step without a place.
-                        None => format!("short {place}\n"),
+                        _ => format!("short {place}\n"),
                     };
             }
         }

@@ -10,12 +10,15 @@ mod examples;
 mod inputs;
 mod itself;
 mod listing;
+mod mending;
+mod naming_examples;
 mod questions;
 mod random;
 mod record;
 mod refusal;
 mod template;
 mod thousandths;
+mod which;
 mod words;
 mod writing;
 

@@ -1,39 +1,56 @@
-//! The numbered refusals of document 01 and of request L3.
+//! The numbered refusals of document 01 and of request L3, and what they carry.
 
-/// A refusal's number, and its place where the paper names one.
+use crate::which::Which;
+
+/// What a refusal says besides its number.
+#[derive(Clone, Copy, Debug, PartialEq, Eq)]
+pub enum Carried {
+    Nothing,
+    /// Where the paper names a place.
+    Place(usize),
+    /// 12 of the writers and of readings (request L2).
+    Which(Which),
+}
+
 #[derive(Clone, Copy, Debug, PartialEq, Eq)]
 pub struct Refusal {
     pub number: u8,
-    pub place: Option<usize>,
+    pub carried: Carried,
 }
 
 impl Refusal {
     pub fn bare(number: u8) -> Refusal {
-        Refusal {
-            number,
-            place: None,
-        }
+        let carried = Carried::Nothing;
+        Refusal { number, carried }
     }
 
     pub fn at(number: u8, place: usize) -> Refusal {
+        let carried = Carried::Place(place);
+        Refusal { number, carried }
+    }
+
+    /// A number outside its range: 12, and which number it was.
+    pub fn naming(which: Which) -> Refusal {
         Refusal {
-            number,
-            place: Some(place),
+            number: 12,
+            carried: Carried::Which(which),
         }
     }
 
     /// The same refusal, its place counted from `start` bytes earlier.
     pub fn later(self, start: usize) -> Refusal {
-        Refusal {
-            place: self.place.map(|place| place + start),
-            ..self
+        match self.carried {
+            Carried::Place(place) => Refusal::at(self.number, place + start),
+            _ => self,
         }
     }
 
     pub fn text(self) -> String {
-        match self.place {
-            Some(place) => format!("refused {} {}", self.number, place),
-            None => format!("refused {}", self.number),
+        let number = self.number;
+        match self.carried {
+            Carried::Nothing => format!("refused {number}"),
+            Carried::Place(place) => format!("refused {number} {place}"),
+            Carried::Which(which) => format!("refused {number} {}", which.text()),
         }
     }
 }

@@ -4,6 +4,7 @@ use crate::cursor::Cursor;
 use crate::description::{self, put_number, Description, Format};
 use crate::record::GREATEST_COUNT;
 use crate::refusal::Refusal;
+use crate::which::{check, Which};
 use crate::writing::fits;
 
 pub const TEMPLATE: u8 = 0xB1;
@@ -108,15 +109,12 @@ fn shortest(maximum: i64) -> usize {
 }
 
 /// Only what is wanted is handed in, so only that is judged.
-pub fn write(template: &Template, room: usize) -> Result<Vec<u8>, u8> {
+pub fn write(template: &Template, room: usize) -> Result<Vec<u8>, Refusal> {
     if let Some(description) = &template.description {
         description::judge(description, Format::Compact)?;
     }
-    if template
-        .maximum
-        .is_some_and(|maximum| maximum > GREATEST_COUNT)
-    {
-        return Err(12);
+    if let Some(maximum) = template.maximum {
+        check(Which::Maximum, maximum, 0..=GREATEST_COUNT)?;
     }
     fits(put(template), room)
 }

@@ -5,21 +5,22 @@
 use std::ops::RangeInclusive;
 
 use crate::record::Place;
+use crate::refusal::Refusal;
+use crate::which::{check, Which};
 
 /// The raw numbers that have a reading, and the E and F.
 pub const RAWS: RangeInclusive<i64> = -32768..=65535;
 pub const ES: RangeInclusive<i64> = 0..=31;
 pub const FS: RangeInclusive<i64> = 0..=2047;
 
-/// Nothing where a number is outside its range (refusal 12).
-pub fn thousandths(raw: i64, e: i64, f: i64) -> Option<i128> {
-    let defined = RAWS.contains(&raw) && ES.contains(&e) && FS.contains(&f);
-    if !defined {
-        return None;
-    }
+/// Refused with 12 where a number is outside its range: raw is judged first, then E, then F.
+pub fn thousandths(raw: i64, e: i64, f: i64) -> Result<i128, Refusal> {
+    check(Which::Raw, raw, RAWS)?;
+    check(Which::E, e, ES)?;
+    check(Which::F, f, FS)?;
     let above = i128::from(raw) * (1 << 27) * 1000;
     let below = (2048 + i128::from(f)) * (1 << e);
-    Some(nearest(above, below))
+    Ok(nearest(above, below))
 }
 
 /// The whole number nearest to above / below, a half going away from zero.
@@ -45,12 +46,12 @@ pub fn first_shared(e: i64, f: i64) -> Option<i64> {
     (above > 0).then(|| scale / (2 * above))
 }
 
-/// What one place of a point reads as, or the number of its refusal.
+/// What one place of a point reads as, or its refusal.
 #[derive(Debug, PartialEq, Eq)]
 pub enum Reading {
     Absent,
     Thousandths(i128),
-    Refused(u8),
+    Refused(Refusal),
 }
 
 /// A scaling value is given where its flag is set, 0 too. A number without its flag is none.
@@ -64,10 +65,10 @@ pub fn of_place(place: Place, scaling: Option<i64>) -> Reading {
     };
     // The calibration is unknown (002, 7.3.4.3). This is said before any number is judged.
     let Some(scaling) = scaling else {
-        return Reading::Refused(20);
+        return Reading::Refused(Refusal::bare(20));
     };
-    match thousandths(raw, scaling.div_euclid(2048), scaling.rem_euclid(2048)) {
-        Some(number) => Reading::Thousandths(number),
-        None => Reading::Refused(12),
-    }
+    // F is what is left over a multiple of 2048, so it is always in its range. A scaling value
+    // below 0 has an E below 0, one above 65535 an E above 31: it is E that is named.
+    let (e, f) = (scaling.div_euclid(2048), scaling.rem_euclid(2048));
+    thousandths(raw, e, f).map_or_else(Reading::Refused, Reading::Thousandths)
 }

@@ -2,6 +2,8 @@
 
 use crate::description::{self, put_number, stored, value_range, value_width, Description, Format};
 use crate::record::{GREATEST_COUNT, IDENTIFIER, VERSION};
+use crate::refusal::Refusal;
+use crate::which::{check, Which};
 
 /// What the length field of extended data holds: it has two bytes (notes A3).
 pub const LONGEST_EXTENDED: usize = 65535;
@@ -15,29 +17,26 @@ pub struct Parts {
     pub extended: Option<Vec<u8>>,
 }
 
-/// The record, or the refusal's number.
-pub fn write(parts: &Parts, room: usize) -> Result<Vec<u8>, u8> {
+pub fn write(parts: &Parts, room: usize) -> Result<Vec<u8>, Refusal> {
     judge(parts)?;
     let record = put(parts);
     fits(record, room)
 }
 
 /// 15 is the last stage of both writers.
-pub fn fits(result: Vec<u8>, room: usize) -> Result<Vec<u8>, u8> {
+pub fn fits(result: Vec<u8>, room: usize) -> Result<Vec<u8>, Refusal> {
     if result.len() > room {
-        return Err(15);
+        return Err(Refusal::bare(15));
     }
     Ok(result)
 }
 
-fn judge(parts: &Parts) -> Result<(), u8> {
+fn judge(parts: &Parts) -> Result<(), Refusal> {
     description::judge(&parts.description, Format::Full)?;
-    if parts.count > GREATEST_COUNT {
-        return Err(12);
-    }
+    check(Which::Count, parts.count, 0..=GREATEST_COUNT)?;
     let channels = stored(&parts.description);
     if parts.values.len() as i64 != parts.count * channels.len() as i64 {
-        return Err(13);
+        return Err(Refusal::bare(13));
     }
     judge_values(&parts.values, &channels)?;
     if parts
@@ -45,17 +44,18 @@ fn judge(parts: &Parts) -> Result<(), u8> {
         .as_ref()
         .is_some_and(|bytes| bytes.len() > LONGEST_EXTENDED)
     {
-        return Err(14);
+        return Err(Refusal::bare(14));
     }
     Ok(())
 }
 
-fn judge_values(values: &[i64], channels: &[usize]) -> Result<(), u8> {
-    for (value, &channel) in values.iter().zip(channels.iter().cycle()) {
+/// The values go as they were lent, point after point. The index counts them all; it does not
+/// begin again with each point.
+fn judge_values(values: &[i64], channels: &[usize]) -> Result<(), Refusal> {
+    let with_channels = values.iter().zip(channels.iter().cycle());
+    for (index, (value, &channel)) in with_channels.enumerate() {
         let (low, high) = value_range(channel);
-        if !(low..=high).contains(value) {
-            return Err(12);
-        }
+        check(Which::Value { index, channel }, *value, low..=high)?;
     }
     Ok(())
 }

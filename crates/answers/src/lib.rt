@@ -2,6 +2,7 @@
 use channels::Place;
 use record_points::Pointed;
 use record_reading::Verdict;
+use refusals::Quantity;
 use refusals::Refusal;
 use refusals::Where;
 use walks::Found;
@@ -11,13 +12,20 @@ pub const NO_SUCH_QUESTION: usize = 7;
 
 pub const TOO_LONG: usize = 8;
 
-// How an answer begins: a word, up to two numbers, and perhaps a last word.
+// The number that refusal 12 names, if any.
+pub enum Named {
+    Nothing,
+    Number(Quantity),
+}
+
+// How an answer begins: a word, up to two numbers, perhaps a last word, and perhaps the number that was out of its range.
 pub struct Answer {
     word: usize,
     count: usize,
     first: u64,
     second: u64,
     last: usize,
+    named: Named,
 }
 
 const RECORD: usize = 0;
@@ -74,7 +82,16 @@ pub fn put(text: &mut [u8; 65536], start: u16, answer: Answer) -> u16 {
     let used = put_word(text, start, answer.word);
     let used = put_number(text, used, 0 < answer.count, answer.first);
     let used = put_number(text, used, 1 < answer.count, answer.second);
-    put_last(text, used, answer.last)
+    let used = put_last(text, used, answer.last);
+    let named = answer.named;
+    put_named(text, used, named)
+}
+
+fn put_named(text: &mut [u8; 65536], used: u16, named: Named) -> u16 {
+    match named {
+        Named::Nothing => used,
+        Named::Number(quantity) => quantities::put(text, used, quantity),
+    }
 }
 
 // A word, and perhaps a number.
@@ -85,11 +102,8 @@ pub fn plain(word: usize, count: usize, number: u64) -> Answer {
         first: number,
         second: 0,
         last: NO_WORD,
+        named: Named::Nothing,
     }
-}
-
-fn refused(number: u64) -> Answer {
-    plain(REFUSED, 1, number)
 }
 
 fn refused_at(number: u64, place: usize) -> Answer {
@@ -99,16 +113,36 @@ fn refused_at(number: u64, place: usize) -> Answer {
         first: number,
         second: place as u64,
         last: NO_WORD,
+        named: Named::Nothing,
     }
 }
 
-// A refusal by its number, with the place that it names.
+fn refused(number: u64, named: Named) -> Answer {
+    Answer {
+        word: REFUSED,
+        count: 1,
+        first: number,
+        second: 0,
+        last: NO_WORD,
+        named: named,
+    }
+}
+
+// What a refusal names beside a place.
+fn named_by(refusal: Refusal) -> Named {
+    if let Refusal::OutOfRange { quantity } = refusal {
+        return Named::Number(quantity);
+    }
+    Named::Nothing
+}
+
+// A refusal by its number, with the place or the number out of range that it names.
 pub fn of_refusal(refusal: Refusal) -> Answer {
     let number = refusals::number(refusal) as u64;
     let place = refusals::place(refusal);
     match place {
         Where::At(byte) => refused_at(number, byte),
-        Where::Nowhere => refused(number),
+        Where::Nowhere => refused(number, named_by(refusal)),
     }
 }
 
@@ -120,6 +154,7 @@ fn of_record(length: usize, count: u32, extended: bool) -> Answer {
         first: length as u64,
         second: count as u64,
         last: if extended { EXTENDED } else { PLAIN },
+        named: Named::Nothing,
     }
 }
 
@@ -161,6 +196,7 @@ pub fn of_maximum(limited: bool, maximum: u32) -> Answer {
         first: maximum as u64,
         second: 0,
         last: if limited { NO_WORD } else { NONE },
+        named: Named::Nothing,
     }
 }
 

@@ -8,17 +8,25 @@ use native.Mathlib.Omega.{arith}
 use borrow.Author.Tests.{ne-eqb}
 use lib.Dec.{T, eqb, leb·zero, leb·suc-zero}
 use lib.IntN.{ℤ, pos, negsuc, natAbs}
+use lib.Ieee.Bits.{is-true}
 use lib.ListN.{length, drop, getD, drop-of-length-le}
 use lib.Seq.{drop-cons}
 use lib.Signed.{leZ}
 use mir.Syntax.{w32}
-use mir.Val.{SFits, ofZ}
+use mir.Val.{SFits, toZ, ofZ}
+use mir.ValLaws.{toZ-pos}
+use Rattle.refusals.specs.Stages.{orElse}
+use Rattle.refusals.specs.Ranges.{firstMisfit}
+use Rattle.refusals.specs.RangeLaws.{joined}
+use Rattle.refusals.specs.declared.Judgement.the-variants.{Passed}
 use Rattle.channels.specs.Channel.{signedOf}
-use Rattle.channels.specs.Stored.{valueOf, fits, between}
+use Rattle.channels.specs.Stored.{offset, valueOf, fits, between}
 use Rattle.channels.specs.declared.Attribute.{Attribute}
 use Rattle.channels.specs.declared.Descriptor.{Descriptor}
 use Rattle.channels.specs.Descriptors.{absent}
 use Rattle.descriptions.specs.Description.{flagless, tidyAttribute, tidyDescriptor, fitsAttribute, fitsDescriptor, every}
+use Rattle.description_judging.specs.Judging.{numbersOf, numbersFrom}
+use Rattle.description_judging.specs.JudgingLaws.{both, all-five}
 
 -- the bits of a number are zero where the number is
 pub zero-bits : (z : ℤ) → SFits w32 z → eqb (ofZ w32 z) 0 ≡ eqb (natAbs z) 0
@@ -114,6 +122,38 @@ module _ (w channel : ℕ) (d : Descriptor) where
       (fitsAttribute w false (d .deviation)))
       ∙ last-first _ _ (d .included || flagless d)
 
+-- ---- One check, of what is tidy
+
+-- where the first of two tests is known to hold, both together say what the second does
+pub second : {found first this : Bool} → found ≡ (first && this) → first ≡ true → found ≡ this
+second {this} e h = e ∙ ap (λ b. b && this) h
+
+-- each attribute of a tidy descriptor is tidy
+pub record TidyAttributes (d : Descriptor) : Type 0 where
+  pub scaling : tidyAttribute (d .scaling) ≡ true
+  pub minimum : tidyAttribute (d .minimum) ≡ true
+  pub maximum : tidyAttribute (d .maximum) ≡ true
+  pub mean : tidyAttribute (d .mean) ≡ true
+  pub deviation : tidyAttribute (d .deviation) ≡ true
+
+pub tidy-attributes : (d : Descriptor) → T (tidyDescriptor d) → TidyAttributes d
+unfolding tidyDescriptor
+tidy-attributes d h =
+    let x =
+    all-five
+    (tidyAttribute (d .scaling))
+    (tidyAttribute (d .minimum))
+    (tidyAttribute (d .maximum))
+    (tidyAttribute (d .mean))
+    (tidyAttribute (d .deviation))
+    (both (d .included || flagless d) _ (is-true _ h) .1) in
+    record { scaling = x .0; minimum = x .1 .0; maximum = x .1 .1 .0; mean = x .1 .1 .1 .0; deviation = x .1 .1 .1 .1 .0 }
+
+-- the largest deviation, which has no sign
+pub largest-deviation : (w n : ℕ) → n < 65536 → n ≡ 256 ^ w - 1 → toZ w32 n ≡ valueOf w false (256 ^ w - 1)
+unfolding valueOf offset
+largest-deviation w n h e = toZ-pos w32 n (omega arith) ∙ ap pos (omega (arith, e))
+
 -- two tests of each channel are one
 pub every-both : (f g : ℕ → Descriptor → Bool) (i : ℕ) (ds : List Descriptor) → (every f i ds && every g i ds) ≡ every (λ j d. f j d && g j d) i ds
 unfolding every
@@ -121,10 +161,6 @@ every-both f g i [] = refl
 every-both f g i (d ∷ ds) = sym (pairs true (f i d) (g i d) (every f (suc i) ds) (every g (suc i) ds)) ∙ ap (λ b. f i d && g i d && b) (every-both f g (suc i) ds)
 
 -- ---- The channels that are left
-
-both : (a b : Bool) → T (a && b) → T a × T b
-both true b h = (tt, h)
-both false b h = absurd h
 
 module _ (test : ℕ → Descriptor → Bool) (ds : List Descriptor) where
   -- what is left to test is this channel and those behind it
@@ -145,4 +181,19 @@ module _ (test : ℕ → Descriptor → Bool) (ds : List Descriptor) where
 
   -- where all pass, so do this one and those behind it
   pub every-holds : (i : ℕ) → i < length ds → T (every test i (drop i ds)) → T (test i (getD ds i absent)) × T (every test (i + 1) (drop (i + 1) ds))
-  every-holds i h t = both (test i (getD ds i absent)) (every test (i + 1) (drop (i + 1) ds)) (rw (every-next i h) at t)
+  every-holds i h t =
+      let x = both (test i (getD ds i absent)) (every test (i + 1) (drop (i + 1) ds)) (is-true _ (rw (every-next i h) at t)) in
+      (rw (x .0) tt, rw (x .1) tt)
+
+-- ---- The numbers that are left
+
+module _ (w : ℕ) (ds : List Descriptor) where
+  -- those of this channel, and of the channels behind it
+  pub numbers-next : (i : ℕ) → i < length ds
+      → firstMisfit (numbersFrom w i (drop i ds)) ≡ orElse (firstMisfit (numbersOf w i (getD ds i absent))) (firstMisfit (numbersFrom w (i + 1) (drop (i + 1) ds)))
+  unfolding numbersFrom
+  numbers-next i h = rw (add-one i, drop-cons ds i absent h) (joined (numbersOf w i (getD ds i absent)) (numbersFrom w (suc i) (drop (suc i) ds)))
+
+  pub numbers-none : (i : ℕ) → length ds ≤ i → firstMisfit (numbersFrom w i (drop i ds)) ≡ Passed
+  unfolding numbersFrom firstMisfit
+  numbers-none i h = rw (drop-of-length-le ds {i = i} h)

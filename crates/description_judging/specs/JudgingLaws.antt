@@ -1,16 +1,84 @@
--- A description is passed where it is valid.
-use mathlib.Core.Path.{_≡_}
-use mathlib.Core.Bool.{Bool}
-use Prim.Native.Nat.{ℕ}
+-- A description is passed where it is valid: its numbers are all in range exactly where `allFit` says so.
+use mathlib.Core.Path.{_≡_, refl, _∙_}
+use mathlib.Core.Bool.{Bool, true, false, _&&_}
+use mathlib.Core.List.{List, [], _∷_}
+use Prim.Native.Nat.{ℕ, suc}
 use lib.Dec.{T}
 use lib.Ieee.Bits.{is-true}
 use lib.ListN.{length}
-use Rattle.refusals.specs.Stages.{require, orElse, stages, require-passed, stages-passed}
-use Rattle.refusals.specs.declared.Refusal.{Refusal}
+use Rattle.formats.specs.Bytes.{impossible}
+use Rattle.refusals.specs.Stages.{require, orElse, stages, require-passed, or-else-passed, stages-passed}
+use Rattle.refusals.specs.Ranges.{firstMisfit}
+use Rattle.refusals.specs.RangeLaws.{passed-fit, fit-passed, joined}
 use Rattle.refusals.specs.declared.Judgement.the-variants as judgement
+use Rattle.channels.specs.Channel.{signedOf}
+use Rattle.channels.specs.declared.Descriptor.{Descriptor}
 use Rattle.channels.specs.declared.Description.{Description}
-use Rattle.descriptions.specs.Description.{includesXY, tidy, allFit, Valid}
-use Rattle.description_judging.specs.Judging.{judgementOf}
+use Rattle.descriptions.specs.Description.{includesXY, tidy, fitsAttribute, fitsDescriptor, every, allFit, Valid}
+use Rattle.description_judging.specs.Judging.{numbersOf, numbersFrom, numbers, judgementOf}
+
+-- ---- The numbers
+
+pub both : (a b : Bool) → (a && b) ≡ true → (a ≡ true) × (b ≡ true)
+both true b e = (refl, e)
+both false b e = impossible (cc)
+
+-- five tests that hold together each hold
+pub all-five : (a b c d e : Bool) → (a && b && c && d && e) ≡ true → (a ≡ true) × ((b ≡ true) × ((c ≡ true) × ((d ≡ true) × ((e ≡ true) × Unit {0}))))
+all-five a b c d e h =
+    let x = both (a && b && c && d) e h in
+    let y = both (a && b && c) d (x .0) in
+    let z = both (a && b) c (y .0) in
+    let u = both a b (z .0) in
+    (u .0, (u .1, (z .1, (y .1, (x .1, tt)))))
+
+-- of a descriptor
+module _ (w channel : ℕ) (d : Descriptor) where
+  of-fit : firstMisfit (numbersOf w channel d) ≡ judgement.Passed → fitsDescriptor w channel d ≡ true
+  unfolding numbersOf fitsDescriptor
+  of-fit e =
+      let x = passed-fit _ e in
+      rw (x .0, x .1 .0, x .1 .1 .0, x .1 .1 .1 .0, x .1 .1 .1 .1 .0)
+
+  of-passed : fitsDescriptor w channel d ≡ true → firstMisfit (numbersOf w channel d) ≡ judgement.Passed
+  unfolding numbersOf fitsDescriptor
+  of-passed e =
+      fit-passed
+      (numbersOf w channel d)
+      (all-five
+      (fitsAttribute 2 false (d .scaling))
+      (fitsAttribute w (signedOf channel) (d .minimum))
+      (fitsAttribute w (signedOf channel) (d .maximum))
+      (fitsAttribute w (signedOf channel) (d .mean))
+      (fitsAttribute w false (d .deviation))
+      e)
+
+module _ (w : ℕ) where
+  -- of the channels from i on
+  from-fit : (i : ℕ) (ds : List Descriptor) → firstMisfit (numbersFrom w i ds) ≡ judgement.Passed → every (fitsDescriptor w) i ds ≡ true
+  unfolding numbersFrom every
+  from-fit i [] e = refl
+  from-fit i (d ∷ ds) e =
+      let x = or-else-passed (firstMisfit (numbersOf w i d)) (firstMisfit (numbersFrom w (suc i) ds)) (rw (joined (numbersOf w i d) (numbersFrom w (suc i) ds)) at e) in
+      rw (of-fit w i d (x .0)) (from-fit (suc i) ds (x .1))
+
+  from-passed : (i : ℕ) (ds : List Descriptor) → every (fitsDescriptor w) i ds ≡ true → firstMisfit (numbersFrom w i ds) ≡ judgement.Passed
+  unfolding numbersFrom every firstMisfit orElse
+  from-passed i [] e = refl
+  from-passed i (d ∷ ds) e =
+      let x = both (fitsDescriptor w i d) (every (fitsDescriptor w) (suc i) ds) e in
+      joined (numbersOf w i d) (numbersFrom w (suc i) ds) ∙ rw (of-passed w i d (x .0)) (from-passed (suc i) ds (x .1))
+
+  -- no number is named exactly where all fit
+  pub none-named : (d : Description) → firstMisfit (numbers w d) ≡ judgement.Passed → allFit w d ≡ true
+  unfolding numbers allFit
+  none-named d e = from-fit 0 (d .channels) e
+
+  pub all-pass : (d : Description) → allFit w d ≡ true → firstMisfit (numbers w d) ≡ judgement.Passed
+  unfolding numbers allFit
+  all-pass d e = from-passed 0 (d .channels) e
+
+-- ---- The stages
 
 -- the three tests of a description that is passed
 pub record Sound (w : ℕ) (d : Description) : Type 0 where
@@ -18,13 +86,15 @@ pub record Sound (w : ℕ) (d : Description) : Type 0 where
   pub neat : T (tidy d)
   pub ranges : T (allFit w d)
 
-holds : (t : Bool) (refusal : Refusal) → require t refusal ≡ judgement.Passed → T t
-holds t refusal e = rw (require-passed t refusal e) tt
+holds : {t : Bool} → t ≡ true → T t
+holds e = rw e tt
 
 module _ (w : ℕ) (d : Description) where
   pub passed-sound : judgementOf w d ≡ judgement.Passed → Sound w d
   unfolding judgementOf
-  passed-sound e = let s = stages-passed _ e in record { xy = holds _ _ (s .0); neat = holds _ _ (s .1 .0); ranges = holds _ _ (s .1 .1 .0) }
+  passed-sound e =
+      let s = stages-passed _ e in
+      record { xy = holds (require-passed _ _ (s .0)); neat = holds (require-passed _ _ (s .1 .0)); ranges = holds (none-named w d (s .1 .1 .0)) }
 
   -- passed and sixteen channels: that is to be valid
   pub passed-valid : judgementOf w d ≡ judgement.Passed → length (d .channels) ≡ 16 → Valid w d
@@ -32,4 +102,4 @@ module _ (w : ℕ) (d : Description) where
 
   pub valid-passed : Valid w d → (judgementOf w d ≡ judgement.Passed) × (length (d .channels) ≡ 16)
   unfolding judgementOf stages orElse require
-  valid-passed v = (rw (is-true (includesXY d) (v .xy), is-true (tidy d) (v .neat), is-true (allFit w d) (v .ranges)), v .sixteen)
+  valid-passed v = (rw (is-true (includesXY d) (v .xy), is-true (tidy d) (v .neat), all-pass w d (is-true (allFit w d) (v .ranges))), v .sixteen)

@@ -3,6 +3,7 @@ use channels::Attribute;
 use channels::Description;
 use channels::Descriptor;
 use channels::Format;
+use refusals::AttributeName;
 use refusals::Judgement;
 use refusals::Quantity;
 use refusals::Refusal;
@@ -10,10 +11,15 @@ use refusals::Where;
 ghost use mathlib.Core.Path.{_≡_};
 ghost use mathlib.Core.Bool.{Bool, _&&_};
 ghost use Prim.Native.Nat.{ℕ, _-_, _^_};
+ghost use lib.Dec.{T};
 ghost use Rattle.channels.specs.Channel.{signedOf, widthOf};
 ghost use Rattle.channels.specs.Stored.{valueOf};
 ghost use Rattle.descriptions.specs.Description.{includesXY, tidyAttribute, flagless, tidyDescriptor, tidy, fitsAttribute, fitsDescriptor, allFit};
-ghost use Rattle.description_judging.specs.Judging.{judgementOf};
+ghost use Rattle.refusals.specs.Ranges.{firstMisfit};
+ghost use Rattle.refusals.specs.declared.Quantity.the-variants as quantity;
+ghost use Rattle.refusals.specs.declared.Refusal.the-variants.{OutOfRange};
+ghost use Rattle.refusals.specs.declared.Judgement.the-variants.{Refused};
+ghost use Rattle.description_judging.specs.Judging.{numbersOf, numbers, judgementOf};
 
 // X and Y are in each record.
 fn has_x_and_y(description: Description) -> bool
@@ -123,6 +129,62 @@ fn is_sound(description: Description, format: Format) -> bool
     true
 }
 
+// A number of a channel is out of its range (refusal 12).
+fn outside(channel: usize, name: AttributeName) -> Judgement
+    ensures { λ r. ⌜ r ≡ Refused (OutOfRange (quantity.Attribute channel name)) ⌝ }
+{
+    Judgement::Refused(Refusal::OutOfRange {
+        quantity: Quantity::Attribute {
+            channel: channel,
+            name: name,
+        },
+    })
+}
+
+// The first number of a tidy descriptor that is out of its range, scaling to deviation. The check is the same: of a tidy attribute it says whether it fits.
+fn judge_numbers(d: Descriptor, channel: usize, format: Format) -> Judgement
+    requires { ⌜ T (tidyDescriptor d) ⌝ }
+    ensures { λ r. ⌜ r ≡ firstMisfit (numbersOf (widthOf format) channel d) ⌝ }
+{
+    let signed = channels::is_signed(channel);
+    let largest = largest(format);
+    let least = channels::value_of(format, signed, 0);
+    let most = channels::value_of(format, signed, largest);
+    if !sound_attribute(d.scaling, 0, 65535) {
+        return outside(channel, AttributeName::Scaling);
+    }
+    if !sound_attribute(d.minimum, least, most) {
+        return outside(channel, AttributeName::Minimum);
+    }
+    if !sound_attribute(d.maximum, least, most) {
+        return outside(channel, AttributeName::Maximum);
+    }
+    if !sound_attribute(d.mean, least, most) {
+        return outside(channel, AttributeName::Mean);
+    }
+    if !sound_attribute(d.deviation, 0, largest as i32) {
+        return outside(channel, AttributeName::Deviation);
+    }
+    Judgement::Passed
+}
+
+// The first number of a tidy description that is out of its range, channel after channel.
+fn first_misfit(description: Description, format: Format) -> Judgement
+    requires { ⌜ T (tidy description) ⌝ }
+    ensures { λ r. ⌜ r ≡ firstMisfit (numbers (widthOf format) description) ⌝ }
+{
+    let mut i: usize = 0;
+    while i < 16 {
+        let d = description.channels[i];
+        let judged = judge_numbers(d, i, format);
+        if let Judgement::Refused(_) = judged {
+            return judged;
+        }
+        i += 1;
+    }
+    Judgement::Passed
+}
+
 // Whether a description can be written: refusals 4, 11 and 12 of document 01, stage by stage, so that an untidy R comes before
 // a number of X that is out of range.
 pub fn judge(description: Description, format: Format) -> Judgement
@@ -137,12 +199,9 @@ pub fn judge(description: Description, format: Format) -> Judgement
     if sound {
         return Judgement::Passed;
     }
-    // Only here is it asked which of the two it is.
-    if is_tidy(description) {
-        Judgement::Refused(Refusal::OutOfRange {
-            quantity: Quantity::Attribute,
-        })
-    } else {
-        Judgement::Refused(Refusal::Untidy) // whatever its numbers are
+    // Only here is it asked which of the two it is, and which number.
+    if !is_tidy(description) {
+        return Judgement::Refused(Refusal::Untidy); // whatever its numbers are
     }
+    first_misfit(description, format)
 }

@@ -15,6 +15,8 @@ use Rattle.formats.specs.Reader.{Answer, next, run, bind, each, times, one, fre
 use Rattle.formats.specs.Number as numbers
 use Rattle.formats.specs.Number.{number}
 use Rattle.refusals.specs.Table.{numberOf, placeOf, named, refusalOf}
+use Rattle.refusals.specs.Stages.{require, orElse}
+use Rattle.refusals.specs.Ranges.{firstMisfit}
 use Rattle.refusals.specs.declared.Where.{Where}
 use Rattle.refusals.specs.declared.Where.the-variants.{At, Nowhere}
 use Rattle.refusals.specs.declared.Refusal.{Refusal}
@@ -46,7 +48,7 @@ use Rattle.templates.specs.declared.Judged as judgement
 use Rattle.templates.specs.Reading as templates
 use Rattle.templates.specs.Reading.{saying, withContent, isShortest, atEnd, limitedBy, limitedFrom, filling, describedBy, contentOf, lengthAndContent, templateOf}
 use Rattle.readings.specs.Thousandths as readings
-use Rattle.readings.specs.Thousandths.{value, nearest, thousandths, defined, reading}
+use Rattle.readings.specs.Thousandths.{value, nearest, thousandths, readWhere, reading}
 
 -- ---- Questions and answers
 
@@ -182,5 +184,5 @@ unfolding answered saidOf run next bind reader.map each times one free literal n
     storedFrom channels stateOf sample point extension fullRecord placesOf
     named refusalOf present verdictFrom descriptionIn verdictNumber judgedWhole pointedAt placesIn
     numbers.value nothing templateNumber withContent isShortest atEnd limitedBy limitedFrom filling describedBy contentOf lengthAndContent templateOf
-    nearest thousandths defined reading
+    nearest thousandths readings.numbers firstMisfit orElse require readWhere reading
 examples = refl

@@ -170,6 +170,10 @@ abbrev pub All : {A : Type 0} → (A → Type 0) → List A → Type 0
 All P [] = Unit {0}
 All P (v ∷ vs) = P v × All P vs
 
+pub all-append : {A : Type 0} (P : A → Type 0) (l m : List A) → All P l → All P m → All P (l ++ m)
+all-append P [] m h g = g
+all-append P (v ∷ l) m h g = (h .0, all-append P l m (h .1) g)
+
 module _ {A : Type 0} {r : Reader A} {encode : A → List ℕ} {Valid : A → Type 0} (w : Writes r encode Valid) where
   abbrev Are : ℕ → List A → Type 0
   Are n vs = (length vs ≡ n) × All Valid vs

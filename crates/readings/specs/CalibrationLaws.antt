@@ -2,28 +2,32 @@
 use mathlib.Core.Path.{_≡_, refl, sym}
 use mathlib.Core.Logic.{_↔_, _≢_}
 use mathlib.Core.Bool.{Bool, true, false, cond}
-use Prim.Native.Nat.{ℕ}
-use lib.IntN.{ℤ, pos, negsuc}
+use mathlib.Core.List.{List, [], _∷_}
+use lib.IntN.{ℤ, pos}
 use Rattle.formats.specs.Bytes.{impossible}
+use Rattle.refusals.specs.Stages.{require, orElse}
+use Rattle.refusals.specs.Ranges.{Ranged, firstMisfit}
+use Rattle.refusals.specs.declared.Refusal.the-variants.{OutOfRange}
 use Rattle.channels.specs.declared.Attribute.{Attribute}
 use Rattle.channels.specs.declared.Place.the-variants.{Absent, Constant, Number}
-use Rattle.readings.specs.Thousandths.{value, outside, uncalibrated, thousandths, defined, reading, readingBy, scaledReading, placeReading}
+use Rattle.readings.specs.Thousandths.{value, uncalibrated, scaledNumbers, readWhere, readingBy, scaledReading, placeReading}
 use Rattle.readings.specs.Calibration.{UncalibratedExactly, CalibratedOnly}
 
 -- ---- What is not 20
 
-number-or-outside : (raw : ℤ) (e f : ℕ) → reading raw e f ≢ uncalibrated
-unfolding reading
-number-or-outside raw e f = go (defined raw e f)
+-- numbers that are judged are refused with 12
+number-or-outside : (l : List Ranged) (z : ℤ) → readWhere (firstMisfit l) z ≢ uncalibrated
+unfolding firstMisfit orElse require readWhere
+number-or-outside [] z h = impossible (cc)
+number-or-outside (number ∷ l) z h = go (number .fits) h (number-or-outside l z)
   where
-    go : (t : Bool) → cond t (value (thousandths raw e f)) outside ≢ uncalibrated
-    go true h = impossible (cc)
-    go false h = impossible (cc)
+    go : (t : Bool) → readWhere (orElse (require t (OutOfRange (number .name))) (firstMisfit l)) z ≡ uncalibrated → readWhere (firstMisfit l) z ≢ uncalibrated → ⊥
+    go true k rest = rest k
+    go false k rest = impossible (cc)
 
 by-a-value : (raw number : ℤ) → readingBy raw number ≢ uncalibrated
 unfolding readingBy
-by-a-value raw (pos number) h = number-or-outside raw _ _ h
-by-a-value raw (negsuc number) h = impossible (cc)
+by-a-value raw number h = number-or-outside (scaledNumbers raw number) _ h
 
 -- ---- By the flag
 

@@ -1,7 +1,7 @@
 -- Order is kept by readings: a size is rounded by a division, whose quotient never falls where the dividend grows, and grows by one where that grows by the divisor.
 use mathlib.Core.Path.{_≡_, refl, sym, ap, _∙_}
 use mathlib.Core.Logic.{_≢_, by-cases}
-use mathlib.Core.Bool.{Bool, true, false, cond}
+use mathlib.Core.Bool.{Bool, true, false, cond, _&&_}
 use Prim.Native.Nat.{ℕ, zero, suc, _+_, _*_, _^_, _≤_, _<_}
 use native.Mathlib.Nat.{add-mul, mul-pos, mul-left-comm, div-mul-le-self, le-div-iff-mul-le}
 use native.Mathlib.Decide.{decLt}
@@ -9,11 +9,17 @@ use native.Mathlib.Omega.{arith}
 use lib.Dec.{leb→le, le→leb}
 use lib.IntN.{ℤ, pos, negsuc, negℤ, natAbs, pos-ne-negsuc}
 use lib.Pow.{pow-pos}
-use lib.Signed.{_≤ℤ_}
+use lib.Signed.{leZ, _≤ℤ_}
 use Rattle.formats.specs.Bytes.{impossible}
 use Rattle.channels.specs.declared.Attribute.{Attribute}
-use Rattle.readings.specs.Thousandths.{value, outside, uncalibrated, halfUp, nearest, denominator, thousandths, defined, reading, readingBy, scaledReading, placeReading, exponentOf, fractionOf}
-use Rattle.readings.specs.Laws.{thousandths-opposite, below, below-pos}
+use Rattle.refusals.specs.Stages.{require, orElse}
+use Rattle.refusals.specs.Ranges.{firstMisfit}
+use Rattle.refusals.specs.declared.Quantity.the-variants.{Raw, Exponent}
+use Rattle.refusals.specs.declared.Refusal.the-variants.{OutOfRange}
+use Rattle.refusals.specs.declared.Judgement.{Judgement}
+use Rattle.refusals.specs.declared.Judgement.the-variants.{Passed, Refused}
+use Rattle.readings.specs.Thousandths.{value, uncalibrated, halfUp, nearest, denominator, thousandths, numbers, readWhere, reading, readingBy, scaledReading, placeReading, exponentOf, fractionOf}
+use Rattle.readings.specs.Laws.{thousandths-opposite, below, below-pos, by-exponent-and-fraction, by-one-below-zero}
 use Rattle.readings.specs.Order.{ReadsAs, PlaceReadsAs, KeepsOrder, KeepsApart, AtMostThousand, exponentBy, fractionBy}
 
 -- ---- Quotients and signs
@@ -86,12 +92,12 @@ module _ (e f : ℕ) where
 -- ---- What to_thousandths answers
 
 answered : (e f : ℕ) (raw x : ℤ) → ReadsAs e f raw x → x ≡ thousandths raw e f
-unfolding reading
-answered e f raw x h = go (defined raw e f) h
+unfolding reading readWhere
+answered e f raw x h = go (firstMisfit (numbers raw e f)) h
   where
-    go : (t : Bool) → value x ≡ cond t (value (thousandths raw e f)) outside → x ≡ thousandths raw e f
-    go true k = cc
-    go false k = impossible (cc)
+    go : (j : Judgement) → value x ≡ readWhere j (thousandths raw e f) → x ≡ thousandths raw e f
+    go Passed k = cc
+    go (Refused refusal) k = impossible (cc)
 
 pub to-thousandths-keeps-order : (e f : ℕ) → KeepsOrder (ReadsAs e f)
 to-thousandths-keeps-order e f raw other x y h p q = rw (answered e f raw x p, answered e f other y q) (order e f raw other h)
@@ -101,14 +107,22 @@ to-thousandths-keeps-apart e f fine raw other x y h p q t = h (one-raw e f fine 
 
 -- ---- What place_thousandths answers, of number places of one channel
 
--- they are read by one E and F
+-- they are read by one E and F; E 32 reads nothing
+never-read : (raw x : ℤ) → ReadsAs 32 0 raw x → ⊥
+unfolding reading numbers firstMisfit orElse require readWhere
+never-read raw x h = go (leZ (negsuc 32767) raw && leZ raw (pos 65535)) h
+  where
+    go : (t : Bool) → value x ≡ readWhere (orElse (require t (OutOfRange Raw)) (Refused (OutOfRange Exponent))) (thousandths raw 32 0) → ⊥
+    go true k = impossible (cc)
+    go false k = impossible (cc)
+
 by-one-scale : (scaling : Attribute) (raw x : ℤ) → PlaceReadsAs scaling raw x → ReadsAs (exponentBy scaling) (fractionBy scaling) raw x
-unfolding placeReading scaledReading readingBy
+unfolding placeReading scaledReading
 by-one-scale scaling raw x h = go (scaling .given) (scaling .number) h
   where
     go : (given : Bool) (number : ℤ) → value x ≡ cond given (readingBy raw number) uncalibrated → value x ≡ reading raw (exponentOf (natAbs number)) (fractionOf (natAbs number))
-    go true (pos number) k = k
-    go true (negsuc number) k = impossible (cc)
+    go true (pos number) k = k ∙ by-exponent-and-fraction raw number
+    go true (negsuc number) k = absurd (never-read raw x (k ∙ by-one-below-zero raw number))
     go false number k = impossible (cc)
 
 module _ (scaling : Attribute) where
@@ -124,7 +138,7 @@ module _ (scaling : Attribute) where
 
 -- at E 25, F 1953, just above 1000, two neighbours share a reading
 pub neighbours-share : ReadsAs 25 1953 (pos 2000) (pos 2000) × ReadsAs 25 1953 (pos 2001) (pos 2000)
-unfolding reading defined thousandths nearest
+unfolding reading numbers firstMisfit orElse require readWhere thousandths nearest
 neighbours-share = (refl, refl)
 
 -- at E 25, F 1952, just 1000, none do

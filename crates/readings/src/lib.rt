@@ -3,21 +3,18 @@ ghost use mathlib.Core.Path.{_≡_};
 ghost use Prim.Native.Nat.{_≤_};
 ghost use lib.IntN.{pos, natAbs};
 ghost use lib.Signed.{_<ℤ_};
-ghost use Rattle.readings.specs.Thousandths.{nearest, exponentOf, fractionOf, denominator, told, toldPlace, reading, scaledReading, placeReading};
+ghost use Rattle.readings.specs.Thousandths.{nearest, exponentOf, fractionOf, denominator, refused, told, toldPlace, reading, scaledReading, placeReading};
+ghost use Rattle.refusals.specs.declared.Refusal.the-variants.{OutOfRange};
 use channels::Attribute;
 use channels::Place;
 use refusals::Quantity;
 use refusals::Refusal;
 
-// A whole number of thousandths; or refusal 12, for a raw number, E or F outside its range; or 20, for a place whose channel has no scaling value.
+// A whole number of thousandths; or refusal 12, which names the first of raw, E and F that is out of its range; or 20, for a place whose channel has no scaling value.
 pub enum Reading {
     Thousandths(i64),
     Refused(Refusal),
 }
-
-const OUTSIDE: Reading = Reading::Refused(Refusal::OutOfRange {
-    quantity: Quantity::Reading,
-});
 
 const UNCALIBRATED: Reading = Reading::Refused(Refusal::Uncalibrated);
 
@@ -55,21 +52,28 @@ fn denominator_of(e: u64, f: u64) -> u64
     (2048 + f) << e
 }
 
+// A number is out of its range (refusal 12).
+fn outside(quantity: Quantity) -> Reading
+    ensures { λ r. ⌜ told r ≡ refused (OutOfRange quantity) ⌝ }
+{
+    Reading::Refused(Refusal::OutOfRange { quantity: quantity })
+}
+
 // The whole number of thousandths nearest to raw * 2^27 / ((2048 + F) * 2^E), a half going away from zero; 134217728 is 2^27.
 pub fn to_thousandths(raw: i64, e: u64, f: u64) -> Reading
     ensures { λ r. ⌜ told r ≡ reading raw e f ⌝ }
 {
     if raw < -32768 {
-        return OUTSIDE;
+        return outside(Quantity::Raw);
     }
     if 65535 < raw {
-        return OUTSIDE;
+        return outside(Quantity::Raw);
     }
     if 31 < e {
-        return OUTSIDE;
+        return outside(Quantity::Exponent);
     }
     if 2047 < f {
-        return OUTSIDE;
+        return outside(Quantity::Fraction);
     }
     let denominator = denominator_of(e, f) as i64;
     let thousandfold = 1000 * raw;
@@ -96,7 +100,7 @@ fn scaled_reading(raw: i64, scaling: Attribute) -> Reading
     }
     let number = scaling.number;
     if number < 0 {
-        return OUTSIDE;
+        return to_thousandths(raw, 32, 0); // its E is out of range, as 32 is, and raw is judged before it
     }
     let scale = scale_of(number as u64);
     to_thousandths(raw, scale.exponent, scale.fraction)

@@ -34,6 +34,17 @@ unfolding orElse
 or-else-passed Passed b e = (refl, e)
 or-else-passed (Refused refusal) b e = impossible (cc)
 
+pub or-else-assoc : (a b c : Judgement) → orElse (orElse a b) c ≡ orElse a (orElse b c)
+unfolding orElse
+or-else-assoc Passed b c = refl
+or-else-assoc (Refused refusal) b c = refl
+
+-- a stage behind which nothing is asked
+pub or-else-last : (a : Judgement) → orElse a Passed ≡ a
+unfolding orElse
+or-else-last Passed = refl
+or-else-last (Refused refusal) = refl
+
 -- all is passed exactly where each stage is
 pub stages-passed : (l : List Judgement) → stages l ≡ Passed → All (λ stage. stage ≡ Passed) l
 unfolding stages

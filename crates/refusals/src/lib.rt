@@ -9,13 +9,24 @@ pub enum Where {
     Nowhere,
 }
 
-// What was outside its range.
+// The numbers that a descriptor may give of its channel, in the order in which they are stored (7.3.4.2).
+pub enum AttributeName {
+    Scaling,
+    Minimum,
+    Maximum,
+    Mean,
+    Deviation,
+}
+
+// Which number was out of its range (request L2).
 pub enum Quantity {
-    Attribute, // a number of a channel's descriptor
+    Attribute { channel: usize, name: AttributeName }, // of a channel's descriptor
     Count, // of points
     Value { index: usize, channel: usize }, // of a sample point, by its index among the values
     Maximum, // of points, in a template
-    Reading, // a raw number, its E or its F
+    Raw, // what is to be read in thousandths
+    Exponent, // E of a scaling value
+    Fraction, // F of one
 }
 
 // The table, in the order of its numbers: document 01's, 1 to 18, and request L3's, 20.

@@ -17,7 +17,8 @@ fn channel_of(name: &[u8]) -> usize {
     words::which(b"X Y Z VX VY AX AY T DT F S TX TY Az El R", b' ', name)
 }
 
-fn put_name(text: &mut [u8; 65536], start: u16, channel: usize) -> u16 {
+// A channel's name, behind a space.
+pub fn put_name(text: &mut [u8; 65536], start: u16, channel: usize) -> u16 {
     let used = texts::put(text, start, b' ');
     texts::put_bytes(
         text,
@@ -27,15 +28,15 @@ fn put_name(text: &mut [u8; 65536], start: u16, channel: usize) -> u16 {
 }
 
 // What is said of a channel: five numbers, and two things that hold or not.
-const SCALING: usize = 0;
+pub const SCALING: usize = 0;
 
-const MINIMUM: usize = 1;
+pub const MINIMUM: usize = 1;
 
-const MAXIMUM: usize = 2;
+pub const MAXIMUM: usize = 2;
 
-const MEAN: usize = 3;
+pub const MEAN: usize = 3;
 
-const DEVIATION: usize = 4;
+pub const DEVIATION: usize = 4;
 
 const CONSTANT: usize = 5;
 
@@ -50,8 +51,9 @@ fn thing_of(name: &[u8]) -> usize {
     )
 }
 
-fn put_thing(text: &mut [u8; 65536], start: u16, thing: usize) -> u16 {
-    let used = texts::put(text, start, b'.');
+// Its name, behind a mark.
+pub fn put_thing(text: &mut [u8; 65536], start: u16, mark: u8, thing: usize) -> u16 {
+    let used = texts::put(text, start, mark);
     texts::put_bytes(
         text,
         used,
@@ -184,14 +186,14 @@ fn put_attribute(text: &mut [u8; 65536], start: u16, thing: usize, attribute: At
     if !attribute.given {
         return start;
     }
-    let used = put_thing(text, start, thing);
+    let used = put_thing(text, start, b'.', thing);
     let used = texts::put(text, used, b'=');
     texts::put_value(text, used, attribute.number)
 }
 
 fn put_holding(text: &mut [u8; 65536], used: u16, thing: usize, holds: bool) -> u16 {
     if holds {
-        return put_thing(text, used, thing);
+        return put_thing(text, used, b'.', thing);
     }
     used
 }

@@ -15,6 +15,8 @@ use Rattle.formats.specs.Put.{puts}
 use Rattle.formats.specs.Lent.{Writing, writing}
 use Rattle.formats.specs.Laid.{Room, Laid, Owed, laid-none}
 use Rattle.refusals.specs.Stages.{require, orElse}
+use Rattle.refusals.specs.Ranges.{firstMisfit}
+use Rattle.refusals.specs.RangeLaws.{joined}
 use Rattle.refusals.specs.declared.Quantity.the-variants.{Value}
 use Rattle.refusals.specs.declared.Refusal.the-variants.{OutOfRange, Amount}
 use Rattle.refusals.specs.declared.Judgement.{Judgement}
@@ -24,7 +26,7 @@ use Rattle.channels.specs.Stored.{fits, storedOf, storedIf}
 use Rattle.tip_switch.specs.Switch.{isState, byteOf, byteIf}
 use Rattle.channels.specs.declared.Stored.the-variants.{Number, Outside}
 use Rattle.points.specs.Points.{storedFrom, channels, fitsSample, width}
-use Rattle.values.specs.Values.{size, step, stride, numbersFrom, pointsFrom, pointsOf, judgePoint, judgeFrom, judgementOf, storedSample, sampleBytes, bytesOf, putOf}
+use Rattle.values.specs.Values.{size, step, stride, numbersFrom, pointsFrom, pointsOf, samplesIn, samplesFrom, samples, judgementOf, storedSample, sampleBytes, bytesOf, putOf}
 use Rattle.values.specs.OrderLaws.{points-bytes}
 use Rattle.values.specs.Parts.{AllAt, Inside, pointBytes, pointsBytes, many, bytesLeft}
 use Rattle.values.specs.declared.Order.{Order}
@@ -136,7 +138,7 @@ module _ (values : List ℤ) (d : ℕ) (stored : List Bool) (i at : ℕ) (h : i 
 module _ (w d : ℕ) (stored : List Bool) (values : List ℤ) where
   -- how they are judged
   unfoldable pub judgeLeft : ℕ → ℕ → Judgement
-  judgeLeft i at = judgePoint w d (storedFrom i (drop i stored)) values at
+  judgeLeft i at = firstMisfit (samplesIn w d (storedFrom i (drop i stored)) values at)
 
   -- a channel that isn't stored is passed
   module _ (i at : ℕ) (h : i < length stored) (e : getD stored i false ≡ false) where
@@ -151,7 +153,7 @@ module _ (w d : ℕ) (stored : List Bool) (values : List ℤ) where
   -- a channel that is stored takes a number
   module _ (i at : ℕ) (h : i < length stored) (e : getD stored i false ≡ true) where
     pub take-judged : judgeLeft i at ≡ orElse (require (fitsSample w i (getD values at (pos 0))) (OutOfRange (Value at i))) (judgeLeft (i + 1) (at + d))
-    unfolding judgeLeft judgePoint
+    unfolding judgeLeft samplesIn firstMisfit
     take-judged = rw (stored-in stored i h e)
 
     pub take-bytes : bytesLeft w d stored values i at ≡ sampleBytes w i (getD values at (pos 0)) ++ bytesLeft w d stored values (i + 1) (at + d)
@@ -159,7 +161,7 @@ module _ (w d : ℕ) (stored : List Bool) (values : List ℤ) where
     take-bytes = rw (stored-in stored i h e)
 
   pub judged-none : (i at : ℕ) → length stored ≤ i → judgeLeft i at ≡ Passed
-  unfolding judgeLeft judgePoint
+  unfolding judgeLeft samplesIn firstMisfit
   judged-none i at h = rw (stored-none stored i h)
 
   pub bytes-none : (i at : ℕ) → length stored ≤ i → bytesLeft w d stored values i at ≡ []
@@ -188,9 +190,9 @@ module _ (w d : ℕ) (l : List ℕ) (values : List ℤ) (p n i from : ℕ) (h : 
   count : n - i ≡ suc (n - (i + 1))
   count = omega arith
 
-  pub next-judged : judgeFrom w d l values p (n - i) from ≡ orElse (judgePoint w d l values from) (judgeFrom w d l values p (n - (i + 1)) (from + p))
-  unfolding judgeFrom
-  next-judged = rw count
+  pub next-judged : firstMisfit (samplesFrom w d l values p (n - i) from) ≡ orElse (firstMisfit (samplesIn w d l values from)) (firstMisfit (samplesFrom w d l values p (n - (i + 1)) (from + p)))
+  unfolding samplesFrom
+  next-judged = rw count (joined (samplesIn w d l values from) (samplesFrom w d l values p (n - (i + 1)) (from + p)))
 
   pub next-bytes : pointsBytes w d l values p (n - i) from ≡ pointBytes w d l values from ++ pointsBytes w d l values p (n - (i + 1)) (from + p)
   unfolding pointsBytes pointBytes pointsFrom flatMap
@@ -200,8 +202,8 @@ module _ (w d : ℕ) (l : List ℕ) (values : List ℤ) (p n i from : ℕ) (h : 
   over : n - i ≡ 0
   over = omega arith
 
-  pub last-judged : judgeFrom w d l values p (n - i) from ≡ Passed
-  unfolding judgeFrom
+  pub last-judged : firstMisfit (samplesFrom w d l values p (n - i) from) ≡ Passed
+  unfolding samplesFrom firstMisfit
   last-judged = rw over
 
   pub last-bytes : pointsBytes w d l values p (n - i) from ≡ []
@@ -214,8 +216,8 @@ no-numbers : (l : List ℕ) → length l ≡ 0 → l ≡ []
 no-numbers [] e = refl
 no-numbers (channel ∷ l) e = absurd (omega arith)
 
-nothing-judged : (w d : ℕ) (values : List ℤ) (p n from : ℕ) → judgeFrom w d [] values p n from ≡ Passed
-unfolding judgeFrom judgePoint orElse
+nothing-judged : (w d : ℕ) (values : List ℤ) (p n from : ℕ) → firstMisfit (samplesFrom w d [] values p n from) ≡ Passed
+unfolding samplesFrom samplesIn firstMisfit
 nothing-judged w d values p zero from = refl
 nothing-judged w d values p (suc n) from = nothing-judged w d values p n (from + p)
 
@@ -235,8 +237,8 @@ module _ (w : ℕ) (stored : List Bool) (order : Order) (count : ℕ) (values : 
   unfolding judgementOf orElse require
   other-amount e = rw e
 
-  pub same-amount : amount ≡ true → judgement ≡ judgeFrom w (stride order count) (channels stored) values (step order (size stored)) count 0
-  unfolding judgementOf orElse require
+  pub same-amount : amount ≡ true → judgement ≡ firstMisfit (samplesFrom w (stride order count) (channels stored) values (step order (size stored)) count 0)
+  unfolding judgementOf samples orElse require
   same-amount e = rw e
 
   pub no-values : amount ≡ true → size stored ≡ 0 → judgement ≡ Passed

@@ -1,5 +1,6 @@
 -- Values in point order and by column: where a number stands, that both orders hold the same points, and what is said and put of them.
 use mathlib.Core.Path.{_≡_, refl, sym, ap, ap₂, _∙_}
+use mathlib.Core.Logic.{_↔_}
 use mathlib.Core.Bool.{Bool, true, false, cond, _&&_}
 use mathlib.Core.List.{List, [], _∷_, _++_, flatMap, flatten, append-assoc}
 use Prim.Native.Nat.{ℕ, zero, suc, _+_, _*_, _%_, _<_}
@@ -15,17 +16,19 @@ use Rattle.formats.specs.Number.{digits, length-digits}
 use Rattle.formats.specs.Put.{puts}
 use Rattle.formats.specs.Lent.{writing}
 use Rattle.formats.specs.Laid.{Room, Laid}
-use Rattle.formats.specs.Writes.{All, Each, encodeEach}
+use Rattle.formats.specs.Writes.{All, all-append, Each, encodeEach}
 use Rattle.refusals.specs.Stages.{require, orElse, require-passed, or-else-passed}
+use Rattle.refusals.specs.Ranges.{Ranged, _fitsIf_, firstMisfit, FirstOutside}
+use Rattle.refusals.specs.RangeLaws.{joined, named-first, first-named, of-first}
+use Rattle.refusals.specs.declared.Quantity.{Quantity}
 use Rattle.refusals.specs.declared.Quantity.the-variants.{Value}
 use Rattle.refusals.specs.declared.Refusal.the-variants.{OutOfRange, Amount}
-use Rattle.refusals.specs.declared.Judgement.{Judgement}
 use Rattle.refusals.specs.declared.Judgement.the-variants.{Passed, Refused}
 use Rattle.channels.specs.Channel.{S, signedOf}
 use Rattle.channels.specs.Stored.{storedOf, fits, storedIf}
 use Rattle.tip_switch.specs.Switch.{byteOf, isState, byteIf, state-byte}
 use Rattle.points.specs.Points.{channels, sampleSize, widths, width, encodeSample, encodePoint, fitsSample, ValidPoint}
-use Rattle.values.specs.Values.{size, step, stride, index, numbersFrom, pointsFrom, pointsOf, judgePoint, judgeFrom, judgementOf, storedSample, numberIn, sampleBytes, bytesOf, putOf}
+use Rattle.values.specs.Values.{size, step, stride, index, numbersFrom, pointsFrom, pointsOf, samplesIn, samplesFrom, samples, judgementOf, storedSample, numberIn, sampleBytes, bytesOf, putOf}
 use Rattle.points.specs.Laws.{points-length}
 use Rattle.values.specs.declared.Order.{Order}
 use Rattle.values.specs.declared.Order.the-variants.{Point, Column}
@@ -162,39 +165,39 @@ module _ (w : ℕ) where
   Fitted l point = Each (λ channel v. T (fitsSample w channel v)) l point
 
   module _ (values : List ℤ) (d : ℕ) where
-    fitted-in : (l : List ℕ) (from : ℕ) → judgePoint w d l values from ≡ Passed → Fitted l (numbersFrom values d (length l) from)
-    unfolding judgePoint numbersFrom
+    fitted-in : (l : List ℕ) (from : ℕ) → firstMisfit (samplesIn w d l values from) ≡ Passed → Fitted l (numbersFrom values d (length l) from)
+    unfolding samplesIn firstMisfit numbersFrom
     fitted-in [] from e = tt
     fitted-in (channel ∷ l) from e =
         let x = or-else-passed _ _ e in
         (rw (require-passed _ _ (x .0)) tt, fitted-in l (from + d) (x .1))
 
-    in-fitted : (l : List ℕ) (from : ℕ) → Fitted l (numbersFrom values d (length l) from) → judgePoint w d l values from ≡ Passed
-    unfolding judgePoint numbersFrom orElse require
+    in-fitted : (l : List ℕ) (from : ℕ) → Fitted l (numbersFrom values d (length l) from) → firstMisfit (samplesIn w d l values from) ≡ Passed
+    unfolding samplesIn firstMisfit numbersFrom orElse require
     in-fitted [] from h = refl
     in-fitted (channel ∷ l) from h = rw (is-true (fitsSample w channel (getD values from (pos 0))) (h .0)) (in-fitted l (from + d) (h .1))
 
     module _ (l : List ℕ) (p : ℕ) where
-      fitted-from : (n from : ℕ) → judgeFrom w d l values p n from ≡ Passed → All (Fitted l) (pointsFrom values d (length l) p n from)
-      unfolding judgeFrom pointsFrom
+      fitted-from : (n from : ℕ) → firstMisfit (samplesFrom w d l values p n from) ≡ Passed → All (Fitted l) (pointsFrom values d (length l) p n from)
+      unfolding samplesFrom pointsFrom
       fitted-from zero from e = tt
-      fitted-from (suc n) from e = let x = or-else-passed _ _ e in (fitted-in l from (x .0), fitted-from n (from + p) (x .1))
+      fitted-from (suc n) from e = let x = or-else-passed _ _ (sym (joined (samplesIn w d l values from) (samplesFrom w d l values p n (from + p))) ∙ e) in (fitted-in l from (x .0), fitted-from n (from + p) (x .1))
 
-      from-fitted : (n from : ℕ) → All (Fitted l) (pointsFrom values d (length l) p n from) → judgeFrom w d l values p n from ≡ Passed
-      unfolding judgeFrom pointsFrom orElse
+      from-fitted : (n from : ℕ) → All (Fitted l) (pointsFrom values d (length l) p n from) → firstMisfit (samplesFrom w d l values p n from) ≡ Passed
+      unfolding samplesFrom firstMisfit pointsFrom orElse
       from-fitted zero from h = refl
-      from-fitted (suc n) from h = rw (in-fitted l from (h .0)) (from-fitted n (from + p) (h .1))
+      from-fitted (suc n) from h = joined (samplesIn w d l values from) (samplesFrom w d l values p n (from + p)) ∙ rw (in-fitted l from (h .0)) (from-fitted n (from + p) (h .1))
 
 module _ (w : ℕ) (stored : List Bool) (order : Order) (count : ℕ) (values : List ℤ) where
   -- that they fit is that they are valid points
   pub fits-valid : judgementOf w stored order count values ≡ Passed → (length values ≡ count * size stored) × All (ValidPoint w stored) (pointsOf order count (size stored) values)
-  unfolding judgementOf pointsOf ValidPoint
+  unfolding judgementOf samples pointsOf ValidPoint
   fits-valid e =
       let x = or-else-passed _ _ e in
       (eqb-true (length values) (count * size stored) (require-passed _ _ (x .0)), fitted-from w values (stride order count) (channels stored) (step order (size stored)) count 0 (x .1))
 
   pub valid-fits : length values ≡ count * size stored → All (ValidPoint w stored) (pointsOf order count (size stored) values) → judgementOf w stored order count values ≡ Passed
-  unfolding judgementOf pointsOf ValidPoint orElse require
+  unfolding judgementOf samples pointsOf ValidPoint orElse require
   valid-fits h g = rw (eq-eqb (length values) (count * size stored) h) (from-fitted w values (stride order count) (channels stored) (step order (size stored)) count 0 g)
 
 -- what is put of valid points is their encoding
@@ -288,125 +291,65 @@ row-fits w stored points h =
 
 -- ---- Which number doesn't fit
 
-module _ (w : ℕ) (values : List ℤ) (d : ℕ) where
-  -- whether the rth number of a point fits
-  abbrev Fit : List ℕ → (from r : ℕ) → Bool → Type 0
-  Fit l from r t = fitsSample w (getD l r 0) (getD values (from + r * d) (pos 0)) ≡ t
+module _ (w : ℕ) (values : List ℤ) (d : ℕ) (P : Ranged → Type 0) where
+  -- the rth sample value of a point, by its index and its channel
+  abbrev nth : List ℕ → (from r : ℕ) → Ranged
+  nth l from r = Value (from + r * d) (getD l r 0) fitsIf fitsSample w (getD l r 0) (getD values (from + r * d) (pos 0))
 
-  -- the first of a point that doesn't
-  record FirstIn (l : List ℕ) (from j channel : ℕ) : Type 0 where
-    rank : ℕ
-    among : rank < length l
-    stands : j ≡ from + rank * d
-    named : channel ≡ getD l rank 0
-    misfit : Fit l from rank false
-    before : (r : ℕ) → r < rank → Fit l from r true
+  -- what holds of each holds of all of a point, and of many points
+  all-in : (l : List ℕ) (from : ℕ) → ((r : ℕ) → r < length l → P (nth l from r)) → All P (samplesIn w d l values from)
+  unfolding samplesIn
+  all-in [] from h = tt
+  all-in (channel ∷ l) from h =
+      let z : from + 0 * d ≡ from = omega arith in
+      (rw z at (h 0 (omega arith)), all-in l (from + d) (λ r q. let y : from + d + r * d ≡ from + suc r * d = omega arith in rw y (h (suc r) (omega arith))))
 
-  first : (channel : ℕ) (l : List ℕ) (from : ℕ) (t : Bool) → fitsSample w channel (getD values from (pos 0)) ≡ t → Fit (channel ∷ l) from 0 t
-  first channel l from t e = let z : from + 0 * d ≡ from = omega arith in rw z e
+  all-from : (l : List ℕ) (p n from : ℕ) → ((i r : ℕ) → i < n → r < length l → P (nth l (from + i * p) r)) → All P (samplesFrom w d l values p n from)
+  unfolding samplesFrom
+  all-from l p zero from h = tt
+  all-from l p (suc n) from h =
+      let z : from + 0 * p ≡ from = omega arith in
+      all-append
+      P
+      (samplesIn w d l values from)
+      (samplesFrom w d l values p n (from + p))
+      (all-in l from (λ r q. rw z at (h 0 r (omega arith) q)))
+      (all-from l p n (from + p) (λ i r q g. let y : from + p + i * p ≡ from + suc i * p = omega arith in rw y (h (suc i) r (omega arith) g)))
 
-  next : (channel : ℕ) (l : List ℕ) (from r : ℕ) (t : Bool) → Fit l (from + d) r t → Fit (channel ∷ l) from (suc r) t
-  next channel l from r t e = let z : from + suc r * d ≡ from + d + r * d = omega arith in rw z e
+module _ (w : ℕ) (stored : List Bool) (order : Order) (count : ℕ) (values : List ℤ) where
+  -- a sample value that doesn't fit its channel: by its point and its rank there, which give its index among the values and its channel
+  pub record Misfit (name : Quantity) : Type 0 where
+    pub point : ℕ
+    pub rank : ℕ
+    pub counted : point < count
+    pub among : rank < size stored
+    pub is : name ≡ Value (index order count (size stored) point rank) (getD (channels stored) rank 0)
+    pub outside : fitsSample w (getD (channels stored) rank 0) (getD values (index order count (size stored) point rank) (pos 0)) ≡ false
 
-  all-fit : (l : List ℕ) (from : ℕ) → judgePoint w d l values from ≡ Passed → (r : ℕ) → r < length l → Fit l from r true
-  unfolding judgePoint
-  all-fit [] from e r h = absurd (omega arith)
-  all-fit (channel ∷ l) from e zero h = first channel l from true (require-passed _ _ (or-else-passed _ _ e .0))
-  all-fit (channel ∷ l) from e (suc r) h = next channel l from r true (all-fit l (from + d) (or-else-passed _ _ e .1) r (omega arith))
+  -- the number that is named is one
+  pub misfit-is : (name : Quantity) → FirstOutside (samples w stored order count values) name → Misfit name
+  unfolding samples
+  misfit-is name x =
+      of-first
+      (λ number. number .fits ≡ false → Misfit (number .name))
+      (samples w stored order count values)
+      name
+      (all-from w values (stride order count) _ (channels stored) (step order (size stored)) count 0 (λ i r h g e.
+      let z : 0 + i * step order (size stored) ≡ i * step order (size stored) = omega arith in
+      record { point = i; rank = r; counted = h; among = g; is = rw z; outside = rw z at e }))
+      x
+      refl
 
-  in-first : (l : List ℕ) (from : ℕ) {j c : ℕ} → judgePoint w d l values from ≡ Refused (OutOfRange (Value j c)) → FirstIn l from j c
-  unfolding judgePoint orElse require
-  in-first [] from e = impossible (cc)
-  in-first (channel ∷ l) from {j} {c} e = go (fitsSample w channel (getD values from (pos 0))) refl e (in-first l (from + d))
-    where
-      go : (t : Bool) → fitsSample w channel (getD values from (pos 0)) ≡ t
-          → orElse (require t (OutOfRange (Value from channel))) (judgePoint w d l values (from + d)) ≡ Refused (OutOfRange (Value j c))
-          → (judgePoint w d l values (from + d) ≡ Refused (OutOfRange (Value j c)) → FirstIn l (from + d) j c) → FirstIn (channel ∷ l) from j c
-      go true q x rest =
-          let f = rest x in
-          record {
-            rank = suc (f .rank);
-            among = omega (arith, f .among);
-            stands = omega (arith, f .stands);
-            named = f .named;
-            misfit = next channel l from (f .rank) false (f .misfit);
-            before = λ r. elim r as (λ n. n < suc (f .rank) → Fit (channel ∷ l) from n true) [ zero ↦ λ h. first channel l from true q | suc n ↦ λ h. next channel l from n true (f .before n (omega arith)) ];
-          }
-      go false q x rest = record {
-        rank = 0;
-        among = omega arith;
-        stands = let z : from ≡ j = cc in omega arith;
-        named = cc;
-        misfit = first channel l from false q;
-        before = λ r h. absurd (omega arith);
-      }
-
-  module _ (l : List ℕ) (p : ℕ) where
-    record FirstFrom (n from j channel : ℕ) : Type 0 where
-      point : ℕ
-      counted : point < n
-      within : FirstIn l (from + point * p) j channel
-      earlier : (i r : ℕ) → i < point → r < length l → Fit l (from + i * p) r true
-
-    from-first : (n from : ℕ) {j c : ℕ} → judgeFrom w d l values p n from ≡ Refused (OutOfRange (Value j c)) → FirstFrom n from j c
-    unfolding judgeFrom orElse
-    from-first zero from e = impossible (cc)
-    from-first (suc n) from {j} {c} e = go (judgePoint w d l values from) refl e (from-first n (from + p))
-      where
-        here : from + 0 * p ≡ from
-        here = omega arith
-
-        later : (i : ℕ) → from + suc i * p ≡ from + p + i * p
-        later i = omega arith
-
-        go : (x : Judgement) → judgePoint w d l values from ≡ x → orElse x (judgeFrom w d l values p n (from + p)) ≡ Refused (OutOfRange (Value j c))
-            → (judgeFrom w d l values p n (from + p) ≡ Refused (OutOfRange (Value j c)) → FirstFrom n (from + p) j c) → FirstFrom (suc n) from j c
-        go Passed h q rest =
-            let f = rest q in
-            record {
-              point = suc (f .point);
-              counted = omega (arith, f .counted);
-              within = rw (later (f .point)) (f .within);
-              earlier = λ i r. elim i as (λ j. j < suc (f .point) → r < length l → Fit l (from + j * p) r true) [
-                | zero ↦ λ a b. rw here (all-fit l from h r b)
-                | suc j ↦ λ a b. rw (later j) (f .earlier j r (omega arith) b)
-              ];
-            }
-        go (Refused refusal) h q rest = record { point = 0; counted = omega arith; within = rw here (in-first l from (h ∙ q)); earlier = λ i r a b. absurd (omega arith) }
-
--- the number that is named, by its point and by its rank in it: all those of earlier points fit, and those before it in its own
-pub record First (w : ℕ) (stored : List Bool) (order : Order) (count : ℕ) (values : List ℤ) (j channel : ℕ) : Type 0 where
-  pub point : ℕ
-  pub rank : ℕ
-  pub counted : point < count
-  pub among : rank < size stored
-  pub stands : j ≡ index order count (size stored) point rank
-  pub named : channel ≡ getD (channels stored) rank 0
-  pub misfit : fitsSample w channel (getD values j (pos 0)) ≡ false
-  pub earlier : (i r : ℕ) → i < point → r < size stored → fitsSample w (getD (channels stored) r 0) (getD values (index order count (size stored) i r) (pos 0)) ≡ true
-  pub before : (r : ℕ) → r < rank → fitsSample w (getD (channels stored) r 0) (getD values (index order count (size stored) point r) (pos 0)) ≡ true
-
--- an amount that is refused names no number
-found : (a : Bool) {x : Judgement} {j channel : ℕ} → orElse (require a Amount) x ≡ Refused (OutOfRange (Value j channel)) → x ≡ Refused (OutOfRange (Value j channel))
-unfolding orElse require
-found true e = e
-found false e = impossible (cc)
-
-pub misfit-first : (w : ℕ) (stored : List Bool) (order : Order) (count : ℕ) (values : List ℤ) {j channel : ℕ} → judgementOf w stored order count values ≡ Refused (OutOfRange (Value j channel))
-    → First w stored order count values j channel
-unfolding judgementOf
-misfit-first w stored order count values {j} {channel} e =
-    let f = from-first w values (stride order count) (channels stored) (step order (size stored)) count 0 (found (eqb (length values) (count * size stored)) e) in
-    let g = f .within in
-    let z : (i : ℕ) → 0 + i * step order (size stored) ≡ i * step order (size stored) = λ i. omega arith in
-    record {
-      point = f .point;
-      rank = g .rank;
-      counted = f .counted;
-      among = g .among;
-      stands = g .stands ∙ rw (z (f .point));
-      named = g .named;
-      misfit = ap₂ (λ c i. fitsSample w c (getD values i (pos 0))) (g .named) (g .stands) ∙ g .misfit;
-      earlier = λ i r a b. rw (z i) at (f .earlier i r a b);
-      before = λ r a. rw (z (f .point)) at (g .before r a);
-    }
+-- it is named exactly where the amount is right and it is the first in point order
+pub misfit-exactly : (w : ℕ) (stored : List Bool) (order : Order) (count : ℕ) (values : List ℤ) (name : Quantity)
+    → (judgementOf w stored order count values ≡ Refused (OutOfRange name)) ↔ ((length values ≡ count * size stored) × FirstOutside (samples w stored order count values) name)
+unfolding judgementOf orElse require
+misfit-exactly w stored order count values name = (
+  λ e. go (eqb (length values) (count * size stored)) refl e,
+  λ h. rw (eq-eqb (length values) (count * size stored) (h .0)) (first-named (samples w stored order count values) name (h .1)),
+)
+  where
+    go : (t : Bool) → eqb (length values) (count * size stored) ≡ t → orElse (require t Amount) (firstMisfit (samples w stored order count values)) ≡ Refused (OutOfRange name)
+        → (length values ≡ count * size stored) × FirstOutside (samples w stored order count values) name
+    go true a e = (eqb-true (length values) (count * size stored) a, named-first (samples w stored order count values) name e)
+    go false a e = impossible (cc)

@@ -1,6 +1,6 @@
 -- The values of many points as a writer is lent them, in one of two orders, and what is done with them.
 use mathlib.Core.Bool.{Bool, cond, _&&_}
-use mathlib.Core.List.{List, [], _∷_, flatMap}
+use mathlib.Core.List.{List, [], _∷_, _++_, flatMap}
 use Prim.Native.Nat.{ℕ, zero, suc, _+_, _*_}
 use lib.Dec.{eqb, leb}
 use lib.IntN.{ℤ, pos}
@@ -10,10 +10,10 @@ use Rattle.formats.specs.Put.{puts}
 use Rattle.formats.specs.Lent.{Writing, writing}
 use Rattle.formats.specs.Writes.{encodeEach}
 use Rattle.refusals.specs.Stages.{require, orElse}
+use Rattle.refusals.specs.Ranges.{Ranged, _fitsIf_, firstMisfit}
 use Rattle.refusals.specs.declared.Quantity.the-variants.{Value}
-use Rattle.refusals.specs.declared.Refusal.the-variants.{OutOfRange, Amount}
+use Rattle.refusals.specs.declared.Refusal.the-variants.{Amount}
 use Rattle.refusals.specs.declared.Judgement.{Judgement}
-use Rattle.refusals.specs.declared.Judgement.the-variants.{Passed}
 use Rattle.channels.specs.Channel.{S, signedOf}
 use Rattle.channels.specs.Stored.{storedIf}
 use Rattle.tip_switch.specs.Switch.{byteIf}
@@ -59,23 +59,22 @@ pointsOf order count k values = pointsFrom values (stride order count) k (step o
 
 -- ---- Whether they fit: whichever the order they are lent in, they are judged in point order
 
--- the numbers of a point: the first that doesn't fit its channel is named
-unfoldable pub judgePoint : (w stride : ℕ) → List ℕ → List ℤ → (from : ℕ) → Judgement
-judgePoint w stride [] values from = Passed
-judgePoint w stride (channel ∷ l) values from =
-    orElse (require (fitsSample w channel (getD values from (pos 0))) (OutOfRange (Value from channel))) (judgePoint w stride l values (from + stride))
+-- the sample values of a point, each by its index among the values and its channel; and those of n points
+unfoldable pub samplesIn : (w stride : ℕ) → List ℕ → List ℤ → (from : ℕ) → List Ranged
+samplesIn w stride [] values from = []
+samplesIn w stride (channel ∷ l) values from =
+    (Value from channel fitsIf fitsSample w channel (getD values from (pos 0))) ∷ samplesIn w stride l values (from + stride)
 
--- and of n points
-unfoldable pub judgeFrom : (w stride : ℕ) → List ℕ → List ℤ → (step n from : ℕ) → Judgement
-judgeFrom w stride l values step zero from = Passed
-judgeFrom w stride l values step (suc n) from = orElse (judgePoint w stride l values from) (judgeFrom w stride l values step n (from + step))
+unfoldable pub samplesFrom : (w stride : ℕ) → List ℕ → List ℤ → (step n from : ℕ) → List Ranged
+samplesFrom w stride l values step zero from = []
+samplesFrom w stride l values step (suc n) from = samplesIn w stride l values from ++ samplesFrom w stride l values step n (from + step)
 
--- that their amount is another comes first
+unfoldable pub samples : (w : ℕ) → List Bool → Order → (count : ℕ) → List ℤ → List Ranged
+samples w stored order count values = samplesFrom w (stride order count) (channels stored) values (step order (size stored)) count 0
+
+-- that their amount is another comes first; then the first that doesn't fit its channel is named
 unfoldable pub judgementOf : (w : ℕ) → List Bool → Order → (count : ℕ) → List ℤ → Judgement
-judgementOf w stored order count values =
-    orElse
-    (require (eqb (length values) (count * size stored)) Amount)
-    (judgeFrom w (stride order count) (channels stored) values (step order (size stored)) count 0)
+judgementOf w stored order count values = orElse (require (eqb (length values) (count * size stored)) Amount) (firstMisfit (samples w stored order count values))
 
 -- ---- What is put
 

@@ -13,7 +13,8 @@ ghost use Rattle.formats.specs.Lent.{writing};
 ghost use Rattle.channels.specs.Channel.{widthOf};
 ghost use Rattle.points.specs.Points.{sampleSize, channels as channelsOf};
 ghost use Rattle.values.specs.Values as lent;
-ghost use Rattle.values.specs.Values.{judgePoint, judgeFrom, judgementOf, storedSample, numberIn, sampleBytes, putOf};
+ghost use Rattle.refusals.specs.Ranges.{firstMisfit};
+ghost use Rattle.values.specs.Values.{samplesIn, samplesFrom, judgementOf, storedSample, numberIn, sampleBytes, putOf};
 ghost use Rattle.values.specs.Parts.{AllAt, Inside, pointBytes, pointsBytes, many, bytesLeft};
 
 // How the values of points are lent: a point after the other, or a stored channel after the other.
@@ -87,7 +88,7 @@ fn judge_point(
     stored: &[bool; 16],
 ) -> Judgement
     requires { ⌜ (length (now stored) ≡ 16) × (stride ≤ length (now values) + 1) × Inside (now values) stride (lent.size (now stored)) from ⌝ }
-    ensures { λ r. ⌜ r ≡ judgePoint (widthOf format) stride (channelsOf (now (stored .entry))) (now (values .entry)) from ⌝ }
+    ensures { λ r. ⌜ r ≡ firstMisfit (samplesIn (widthOf format) stride (channelsOf (now (stored .entry))) (now (values .entry)) from) ⌝ }
 {
     let mut index = from;
     let mut channel: usize = 0;
@@ -122,7 +123,7 @@ fn judge_from(
     stored: &[bool; 16],
 ) -> Judgement
     requires { ⌜ (length (now stored) ≡ 16) × (stride ≤ length (now values) + 1) × (step ≤ 16) × (0 < lent.size (now stored)) × AllAt (Inside (now values) stride (lent.size (now stored))) step count 0 ⌝ }
-    ensures { λ r. ⌜ r ≡ judgeFrom (widthOf format) stride (channelsOf (now (stored .entry))) (now (values .entry)) step count 0 ⌝ }
+    ensures { λ r. ⌜ r ≡ firstMisfit (samplesFrom (widthOf format) stride (channelsOf (now (stored .entry))) (now (values .entry)) step count 0) ⌝ }
 {
     let mut from: usize = 0;
     let mut i: usize = 0;

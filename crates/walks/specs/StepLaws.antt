@@ -11,7 +11,7 @@ use borrow.Author.Tests.{lt-ltb, le-ltb, ltb-true, ltb-false}
 use Rattle.formats.specs.Bytes.{Bytes, bytes-drop, impossible}
 use Rattle.formats.specs.Reader.{Answer, ok, short, bad, after, run, readAt}
 use Rattle.formats.specs.Law.{whole}
-use Rattle.formats.specs.Writes.{All}
+use Rattle.formats.specs.Writes.{All, all-append}
 use Rattle.formats.specs.declared.Failure.the-variants.{Short, Bad}
 use Rattle.refusals.specs.Table.{refusalOf}
 use Rattle.records.specs.Record.{Record, fullRecord, IsRecord, present}
@@ -31,10 +31,6 @@ flatten-append [] cs = refl
 flatten-append (b ∷ bs) cs = ap (λ (l : List ℕ). b ++ l) (flatten-append bs cs) ∙ sym (append-assoc b (flatten bs) (flatten cs))
 
 module _ (P : List ℕ → Type 0) where
-  all-append : (bs cs : List (List ℕ)) → All P bs → All P cs → All P (bs ++ cs)
-  all-append [] cs h g = g
-  all-append (b ∷ bs) cs h g = (h .0, all-append bs cs (h .1) g)
-
   pub all-at : (bs : List (List ℕ)) → All P bs → (k : ℕ) → k < length bs → P (getD bs k [])
   all-at [] h k q = absurd (omega arith)
   all-at (b ∷ bs) h zero q = h .0

@@ -3,13 +3,10 @@
 
 use super::order::reading;
 use super::readings::{numbers_of_each_sort, places_of_each_sort, raws};
-use crate::compare::{Answered, Comparison};
+use crate::compare::{Answered, Claim, Comparison};
 use crate::random::Random;
 
 const ASKED: &str = "places with and without a scaling value";
-
-/// The kind that a claim is counted as, and what it says.
-type Claim = (&'static str, &'static str);
 
 const UNKNOWN: Claim = (
     "no reading without a scaling value",
@@ -91,9 +88,8 @@ fn judge(comparison: &mut Comparison, place: &str, answered: &[Answered]) {
             claim(comparison, ABSENT, [without, with], is_absent);
         } else {
             claim(comparison, UNKNOWN, [none, without], is_unknown);
-            let (kind, says) = FLAG;
             let holds = is_unknown(without) && is_judged(with);
-            comparison.claim(kind, says, [without, with], holds);
+            comparison.claim(FLAG, &[without, with], holds);
         }
     }
 }
@@ -101,11 +97,11 @@ fn judge(comparison: &mut Comparison, place: &str, answered: &[Answered]) {
 /// A claim that both answers must hold alike.
 fn claim(
     comparison: &mut Comparison,
-    (kind, says): Claim,
+    claim: Claim,
     both: [&Answered; 2],
     holds: fn(&Answered) -> bool,
 ) {
-    comparison.claim(kind, says, both, both.into_iter().all(holds));
+    comparison.claim(claim, &both, both.into_iter().all(holds));
 }
 
 fn is_absent(answered: &Answered) -> bool {
@@ -117,9 +113,11 @@ fn is_unknown(answered: &Answered) -> bool {
     is(answered, b"refused 20")
 }
 
-/// Taken with its scaling value: there is a reading, or a number is outside its range.
+/// Taken with its scaling value: there is a reading, or a number is outside its range. Which one
+/// is judged in `naming`; it is the place's own or the scaling value.
 fn is_judged(answered: &Answered) -> bool {
-    reading(answered).is_some() || is(answered, b"refused 12")
+    let refused = ["refused 12 raw", "refused 12 E"];
+    reading(answered).is_some() || refused.iter().any(|text| is(answered, text.as_bytes()))
 }
 
 fn is(answered: &Answered, answer: &[u8]) -> bool {

@@ -14,6 +14,7 @@ use crate::writing::{Parts, LONGEST_EXTENDED};
 const EXTENDED: &str = "writing long extended data";
 const STAGES: &str = "writing too long extended data with stages broken";
 const LONG: &str = "long records written";
+const LATE: &str = "values out of range far behind";
 
 pub fn ask_all(comparison: &mut Comparison, random: &mut Random) {
     wanted(comparison, random);
@@ -23,6 +24,7 @@ pub fn ask_all(comparison: &mut Comparison, random: &mut Random) {
     with_others(comparison, random);
     full_room(comparison, random);
     many_values(comparison, random);
+    late_values(comparison);
 }
 
 /// A record of one point without its opening byte: what is before it and what is behind.
@@ -30,10 +32,10 @@ const FRONT: &str = "5344490020313000C000000000";
 const POINT: &str = "0000017FFF8000";
 
 /// A refusal leaves the whole room as it was.
-fn refused(number: u8, room: usize) -> String {
+fn refused(why: &str, room: usize) -> String {
     match room {
-        0 => format!("refused {number} -"),
-        _ => format!("refused {number} {}", "AA".repeat(room)),
+        0 => format!("refused {why} -"),
+        _ => format!("refused {why} {}", "AA".repeat(room)),
     }
 }
 
@@ -59,7 +61,7 @@ fn wanted(comparison: &mut Comparison, random: &mut Random) {
         }
         for room in [length - 1, 22, 0] {
             let line = format!("write 1 -1,0 {data} {room} X Y");
-            comparison.ask_typed(EXTENDED, &line, &refused(15, room));
+            comparison.ask_typed(EXTENDED, &line, &refused("15", room));
         }
     }
     for _ in 0..comparison.amount(4) {
@@ -86,7 +88,7 @@ fn too_long(comparison: &mut Comparison, random: &mut Random) {
         for room in [length, 131_072, length - 1, 28, 23, 0] {
             let room = room.min(131_072);
             let line = format!("write 1 -1,0 {data} {room} X Y");
-            comparison.ask_typed(EXTENDED, &line, &refused(14, room));
+            comparison.ask_typed(EXTENDED, &line, &refused("14", room));
         }
     }
 }
@@ -101,23 +103,23 @@ fn only_lent(comparison: &mut Comparison, random: &mut Random) {
             comparison.ask_typed(EXTENDED, &line, &answer);
         }
         let line = format!("write 1 -1,0 !{data} 20 X Y");
-        comparison.ask_typed(EXTENDED, &line, &refused(15, 20));
+        comparison.ask_typed(EXTENDED, &line, &refused("15", 20));
     }
 }
 
-/// COUNT, VALUES and CHANNEL.. with one stage broken, and its number.
-const BROKEN: [(&str, &str, &str, u8); 11] = [
-    ("1", "0", "Y", 4),
-    ("1", "-1", "X !Y", 4),
-    ("1", "-1,0", "X Y.!mean=5", 11),
-    ("1", "-1,0", "X Y !Z.constant", 11),
-    ("1", "-1,0", "X.mean=32768 Y", 12),
-    ("1", "-1,0", "X Y.scaling=65536", 12),
-    ("16777216", "-", "X.constant Y.constant", 12),
-    ("1", "-1", "X Y", 13),
-    ("1", "-1,0,0", "X Y", 13),
-    ("1", "-1,32768", "X Y", 12),
-    ("1", "-1,0,2", "X Y S", 12),
+/// COUNT, VALUES and CHANNEL.. with one stage broken, its number, and for 12 which it was.
+const BROKEN: [(&str, &str, &str, &str); 11] = [
+    ("1", "0", "Y", "4"),
+    ("1", "-1", "X !Y", "4"),
+    ("1", "-1,0", "X Y.!mean=5", "11"),
+    ("1", "-1,0", "X Y !Z.constant", "11"),
+    ("1", "-1,0", "X.mean=32768 Y", "12 X mean"),
+    ("1", "-1,0", "X Y.scaling=65536", "12 Y scaling"),
+    ("16777216", "-", "X.constant Y.constant", "12 count"),
+    ("1", "-1", "X Y", "13"),
+    ("1", "-1,0,0", "X Y", "13"),
+    ("1", "-1,32768", "X Y", "12 value 1 Y"),
+    ("1", "-1,0,2", "X Y S", "12 value 2 S"),
 ];
 
 /// Each of them comes before 14, with room and without; with data not too long, or only lent,
@@ -125,7 +127,7 @@ const BROKEN: [(&str, &str, &str, u8); 11] = [
 fn with_another(comparison: &mut Comparison, random: &mut Random) {
     let data = digits(&random.bytes(65536));
     let fewer = &data[2..];
-    for (count, values, channels, number) in BROKEN {
+    for (count, values, channels, why) in BROKEN {
         for (extended, room) in [
             (data.clone(), 65600),
             (data.clone(), 3),
@@ -133,7 +135,7 @@ fn with_another(comparison: &mut Comparison, random: &mut Random) {
             (format!("!{data}"), 100),
         ] {
             let line = format!("write {count} {values} {extended} {room} {channels}");
-            comparison.ask_typed(STAGES, &line, &refused(number, room));
+            comparison.ask_typed(STAGES, &line, &refused(why, room));
         }
     }
 }
@@ -191,5 +193,18 @@ fn many_values(comparison: &mut Comparison, random: &mut Random) {
         comparison.ask(LONG, questions::write(&parts, 9));
         parts.values.pop();
         comparison.ask(LONG, questions::write(&parts, 9));
+    }
+}
+
+/// A value's index has as many bits as it takes: these are around eight and sixteen of them. X has
+/// the even ones, Y the odd ones.
+fn late_values(comparison: &mut Comparison) {
+    for (index, channel) in [(255, "Y"), (256, "X"), (65535, "Y"), (65536, "X")] {
+        let mut values = vec!["0"; index / 2 * 2 + 2];
+        values[index] = "32768";
+        let count = values.len() / 2;
+        let line = format!("write {count} {} ! 1 X Y", values.join(","));
+        let answer = format!("refused 12 value {index} {channel} AA");
+        comparison.ask_typed(LATE, &line, &answer);
     }
 }

@@ -7,6 +7,7 @@ mod joined;
 mod lines;
 mod long_records;
 mod long_writes;
+mod naming;
 mod order;
 mod readings;
 mod records;
@@ -20,7 +21,7 @@ use crate::random::Random;
 
 pub fn everything(comparison: &mut Comparison, seed: u64) {
     examples::ask_all(comparison);
-    let sorts: [fn(&mut Comparison, &mut Random); 12] = [
+    let sorts: [fn(&mut Comparison, &mut Random); 13] = [
         records::ask_all,
         damage::ask_all,
         joined::ask_all,
@@ -33,6 +34,7 @@ pub fn everything(comparison: &mut Comparison, seed: u64) {
         long_writes::ask_all,
         order::ask_all,
         calibration::ask_all,
+        naming::ask_all,
     ];
     for (number, ask_all) in sorts.into_iter().enumerate() {
         // Each sort has a seed of its own, so that a change in one leaves the others.

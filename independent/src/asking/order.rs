@@ -142,10 +142,10 @@ fn judge(comparison: &mut Comparison, sort: &Sort, run: &Run, answered: &[Answer
         // All numbers of a run are in range, so an answer that is no reading breaks a claim.
         let step = distance(both);
         let ordered = step.is_some_and(|step| step >= 0);
-        comparison.claim(sort.ordered, ORDERED, both, ordered);
+        comparison.claim((sort.ordered, ORDERED), &both, ordered);
         if at_most_1000 {
             let different = step.is_some_and(|step| step != 0);
-            comparison.claim(sort.different, DIFFERENT, both, different);
+            comparison.claim((sort.different, DIFFERENT), &both, different);
         }
         shared |= step == Some(0);
     }
@@ -154,7 +154,7 @@ fn judge(comparison: &mut Comparison, sort: &Sort, run: &Run, answered: &[Answer
     }
     // The bound is sharp: every run above it has raw numbers that share a reading.
     if let [first, .., last] = answered {
-        comparison.claim(sort.shared, SHARED, [first, last], shared);
+        comparison.claim((sort.shared, SHARED), &[first, last], shared);
     }
 }
 

@@ -76,7 +76,7 @@ pub fn with_broken(random: &mut Random, mut parts: Parts, length: usize, set: u8
         break_amount(random, &mut parts.values);
     }
     if broken(3) {
-        parts.count = GREATEST_COUNT + random.pick(&[1, 2, 1_000_000_000_000]);
+        break_count(random, &mut parts);
     }
     if broken(2) {
         break_range(random, &mut parts.description, Format::Full);
@@ -132,8 +132,12 @@ pub fn break_range(random: &mut Random, description: &mut Description, format: F
     description[channel].numbers[attribute] = random.pick(&[low - 1, high + 1, ENDS[0], ENDS[1]]);
 }
 
+pub fn break_count(random: &mut Random, parts: &mut Parts) {
+    parts.count = GREATEST_COUNT + random.pick(&[1, 2, 1_000_000_000_000]);
+}
+
 /// A value too few, some too many, or none.
-fn break_amount(random: &mut Random, values: &mut Vec<i64>) {
+pub fn break_amount(random: &mut Random, values: &mut Vec<i64>) {
     match random.below(3) {
         0 if !values.is_empty() => values.truncate(values.len() - 1),
         1 if !values.is_empty() => values.clear(),
@@ -142,7 +146,7 @@ fn break_amount(random: &mut Random, values: &mut Vec<i64>) {
 }
 
 /// One value outside its range, where there is a value.
-fn break_value(random: &mut Random, parts: &mut Parts) {
+pub fn break_value(random: &mut Random, parts: &mut Parts) {
     let channels = stored(&parts.description);
     let place = random.below(parts.values.len());
     if let Some(value) = parts.values.get_mut(place) {

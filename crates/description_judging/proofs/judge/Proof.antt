@@ -1,13 +1,13 @@
--- `description_judging::judge` meets its contract: the three tests, in the definition's order. Of two that fail together, the first says which.
-use mathlib.Core.Path.{_≡_, refl, sym, _∙_}
-use mathlib.Core.Bool.{Bool, true, false, _&&_}
+-- `description_judging::judge` meets its contract: the stages, in the definition's order. Where all is sound no number is named; and where it is not, the numbers are asked behind tidiness.
+use mathlib.Core.Path.{_≡_, sym, _∙_}
+use mathlib.Core.Bool.{true}
 use borrow.Author.Needs.{needs}
 use borrow.Author.Tests.{not-true, not-false}
-use Rattle.formats.specs.Bytes.{impossible}
-use Rattle.refusals.specs.Stages.{require, orElse, stages}
+use Rattle.refusals.specs.Stages.{require, orElse, stages, or-else-last}
 use Rattle.channels.specs.Channel.{widthOf}
 use Rattle.descriptions.specs.Description.{includesXY, tidy, allFit}
 use Rattle.description_judging.specs.Judging.{judgementOf}
+use Rattle.description_judging.specs.JudgingLaws.{both, all-pass}
 use Rattle.description_judging.proofs.judge.Statement.{statement}
 use Rattle.description_judging.proofs.judge.Tie as tie
 
@@ -20,15 +20,6 @@ has-x-and-y-requires c κs = search needs
 is-tidy-requires : tie.Need-is-tidy-requires
 is-tidy-requires c κs = search needs
 
--- both pass, or the second fails where the first passes
-pass : (a b : Bool) → (a && b) ≡ true → (a ≡ true) × (b ≡ true)
-pass true b e = (refl, e)
-pass false b e = impossible (cc)
-
-fail : (a b : Bool) → (a && b) ≡ false → a ≡ true → b ≡ false
-fail true b e h = e
-fail false b e h = impossible (cc)
-
 returns : tie.Need-returns
 unfolding judgementOf stages orElse require
 returns c = rw (sym (c .before .has-x-and-y .ensures) ∙ not-true _ (c .if1 .taken))
@@ -37,35 +28,32 @@ returns c = rw (sym (c .before .has-x-and-y .ensures) ∙ not-true _ (c .if1 .ta
 complete : (c : tie.Else1) → includesXY (c .before .before .before .args .description) ≡ true
 complete c = sym (c .before .has-x-and-y .ensures) ∙ not-false _ (c .if1 .left)
 
-module _ (m : tie.After-is-sound) where
-  abbrev neat : Bool
-  neat = tidy (m .before .args .description)
-
-  abbrev fit : Bool
-  fit = allFit (widthOf (m .before .args .format)) (m .before .args .description)
-
 returns-2 : tie.Need-returns-2
 unfolding judgementOf stages orElse require
 returns-2 c =
     let e = c .before in
     let m = e .before .before in
-    let p = pass (neat m) (fit m) (sym (m .is-sound .ensures) ∙ c .if2 .taken) in
-    rw (complete e, p .0, p .1)
+    let d = m .before .args .description in
+    let w = widthOf (m .before .args .format) in
+    let p = both (tidy d) (allFit w d) (sym (m .is-sound .ensures) ∙ c .if2 .taken) in
+    rw (complete e, p .0, all-pass w d (p .1))
 
 returns-3 : tie.Need-returns-3
 unfolding judgementOf stages orElse require
 returns-3 c =
     let t = c .before in
-    let e = t .before .before in
-    let m = e .before .before in
-    let n = sym (t .is-tidy .ensures) ∙ c .if3 .taken in
-    rw (complete e, n, fail (neat m) (fit m) (sym (m .is-sound .ensures) ∙ t .before .if2 .left) n)
+    rw (complete (t .before .before), sym (t .is-tidy .ensures) ∙ not-true _ (c .if3 .taken))
+
+-- a tidy description, whose numbers are asked
+neat : (c : tie.Else3) → tidy (c .before .before .before .before .before .before .args .description) ≡ true
+neat c = sym (c .before .is-tidy .ensures) ∙ not-false _ (c .if3 .left)
+
+first-misfit-requires : tie.Need-first-misfit-requires
+first-misfit-requires c κs = rw (neat c) tt
 
 returns-4 : tie.Need-returns-4
 unfolding judgementOf stages orElse require
-returns-4 c =
-    let t = c .before in
-    rw (complete (t .before .before), sym (t .is-tidy .ensures) ∙ c .if3 .left)
+returns-4 c = c .first-misfit .ensures ∙ sym (rw (complete (c .before .before .before .before), neat (c .before)) (or-else-last _))
 
 pub judge-spec : {M : Type 1} → statement M
 judge-spec =
@@ -77,4 +65,5 @@ judge-spec =
     returns-2
     is-tidy-requires
     returns-3
+    first-misfit-requires
     returns-4)

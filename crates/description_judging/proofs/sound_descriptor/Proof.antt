@@ -5,14 +5,13 @@ use mathlib.Core.Bool.{false, _||_}
 use Prim.Native.Nat.{ℕ, _-_, _^_}
 use native.Mathlib.Omega.{arith}
 use borrow.Author.Needs.{needs}
-use lib.IntN.{pos}
 use mir.Syntax.{w32}
 use mir.Val.{toZ, ofZ}
-use mir.ValLaws.{toZ-pos, toZ-ofZ}
+use mir.ValLaws.{toZ-ofZ}
 use Rattle.channels.specs.Channel.{widthOf, signedOf}
 use Rattle.channels.specs.Stored.{offset, valueOf}
 use Rattle.descriptions.specs.Description.{flagless}
-use Rattle.description_judging.proofs.Judging.{toScaling, toMinimum, toMaximum, toMean, toDeviation, all-asked, asked, not-asked}
+use Rattle.description_judging.proofs.Judging.{toScaling, toMinimum, toMaximum, toMean, toDeviation, all-asked, asked, not-asked, largest-deviation}
 use Rattle.description_judging.proofs.sound_descriptor.Statement.{statement}
 use Rattle.description_judging.proofs.sound_descriptor.Tie as tie
 
@@ -56,11 +55,6 @@ module _ (channel : ℕ) (c : tie.After-value-of2) (h : c .before .before .befor
 
   most : toZ w32 (ofZ w32 (c .value-of2 .result)) ≡ valueOf width (signedOf channel) (256 ^ width - 1)
   most = toZ-ofZ w32 (c .value-of2 .result) (search needs) ∙ c .value-of2 .ensures ∙ rw (h, c .before .before .largest .ensures)
-
--- and the upper one of a deviation
-largest-deviation : (c : tie.After-largest) → toZ w32 (c .largest .result) ≡ valueOf (widthOf (c .before .args .format)) false (256 ^ widthOf (c .before .args .format) - 1)
-unfolding valueOf offset
-largest-deviation c = toZ-pos w32 (c .largest .result) (omega arith) ∙ ap pos (omega (arith, c .largest .ensures))
 
 -- what was asked up to each attribute
 module _ (c : tie.After-sound-attribute) where
@@ -110,7 +104,7 @@ module _ (channel : ℕ) where
   deviation-asked c h =
       let e = mean-asked (c .before) h in
       let l = c .before .before .before .before .before .before .before in
-      ⊎-elim {C = Deviation c} (λ w. w .2 ∙ asked e (w .0 .taken) (w .1 .ensures _ false refl (largest-deviation l))) (λ w. w .1 ∙ not-asked e _ (w .0 .left)) (c .if4 .came)
+      ⊎-elim {C = Deviation c} (λ w. w .2 ∙ asked e (w .0 .taken) (w .1 .ensures _ false refl (largest-deviation _ _ (omega arith) (l .largest .ensures)))) (λ w. w .1 ∙ not-asked e _ (w .0 .left)) (c .if4 .came)
 
 returns : tie.Need-returns
 returns c channel h =

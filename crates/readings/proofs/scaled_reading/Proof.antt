@@ -1,5 +1,5 @@
--- `readings::scaled_reading` meets its contract: by the scaling value's flag, and behind it by the sign of its number. Assumes nothing.
-use mathlib.Core.Path.{_≡_, refl, _∙_}
+-- `readings::scaled_reading` meets its contract: by the scaling value's flag, and behind it by the sign of its number, which is read by its E and F or, below zero, by E 32. Assumes nothing.
+use mathlib.Core.Path.{_≡_, sym, _∙_}
 use mathlib.Core.Bool.{true, false}
 use Prim.Native.Nat.{ℕ}
 use native.Mathlib.Omega.{arith}
@@ -11,15 +11,15 @@ use lib.Signed.{ltZ, nonNeg}
 use mir.Syntax.{w32, w64}
 use mir.Val.{Fits, SFits, toZ, ofZ}
 use mir.ValLaws.{toZ-ofZ}
-use Rattle.readings.specs.Thousandths.{outside, reading, readingBy, exponentOf, fractionOf, scaledReading}
+use Rattle.readings.specs.Thousandths.{reading, readingBy, exponentOf, fractionOf, scaledReading}
+use Rattle.readings.specs.Laws.{by-exponent-and-fraction, by-one-below-zero}
 use Rattle.readings.proofs.scaled_reading.Statement.{statement}
 use Rattle.readings.proofs.scaled_reading.Tie as tie
 
 -- a number below zero, and one that is not
-negative : (raw number : ℤ) → ltZ number (pos 0) ≡ true → outside ≡ readingBy raw number
-unfolding readingBy
+negative : (raw number : ℤ) → ltZ number (pos 0) ≡ true → reading raw 32 0 ≡ readingBy raw number
 negative raw (pos n) h = let k = ltb-true n 0 h in absurd (omega arith)
-negative raw (negsuc n) h = refl
+negative raw (negsuc n) h = sym (by-one-below-zero raw n)
 
 record Natural (raw number : ℤ) : Type 0 where
   sign : T (nonNeg number)
@@ -27,8 +27,7 @@ record Natural (raw number : ℤ) : Type 0 where
   reads : reading raw (exponentOf (natAbs number)) (fractionOf (natAbs number)) ≡ readingBy raw number
 
 natural : (raw number : ℤ) → SFits w32 number → ltZ number (pos 0) ≡ false → Natural raw number
-unfolding readingBy
-natural raw (pos n) f h = let k = f .sfits in record { sign = tt; fits = record { fits = omega arith }; reads = refl }
+natural raw (pos n) f h = let k = f .sfits in record { sign = tt; fits = record { fits = omega arith }; reads = sym (by-exponent-and-fraction raw n) }
 natural raw (negsuc n) f h = let z : _≡_ {A = ℕ} 0 1 = cc in absurd (omega arith)
 
 -- what the tests on its bits say
@@ -48,11 +47,15 @@ returns c = rw (not-true (c .before .args .scaling .given) (c .if1 .taken))
 given : (c : tie.Else1) → c .before .args .scaling .given ≡ true
 given c = not-false (c .before .args .scaling .given) (c .if1 .left)
 
+to-thousandths-requires : tie.Need-to-thousandths-requires
+to-thousandths-requires c κs = search needs
+
 returns-2 : tie.Need-returns-2
 unfolding scaledReading
 returns-2 c =
-    let s = c .before .before .before in
-    rw (given (c .before .before)) (negative (s .args .raw) (s .args .scaling .number) (rw (read-number s) at (c .if2 .taken)))
+    let t = c .before in
+    let s = t .before .before .before in
+    rw (given (t .before .before)) (c .to-thousandths .ensures ∙ rw (toZ-ofZ w64 (s .args .raw) (s .fits .raw)) (negative (s .args .raw) (s .args .scaling .number) (rw (read-number s) at (t .if2 .taken))))
 
 cast-scale-of : tie.Need-cast-scale-of
 cast-scale-of c = rw (read-number (c .before .before .before)) (natural-number c .sign, natural-number c .fits)
@@ -60,15 +63,15 @@ cast-scale-of c = rw (read-number (c .before .before .before)) (natural-number c
 scale-of-requires : tie.Need-scale-of-requires
 scale-of-requires c κs = search needs
 
-to-thousandths-requires : tie.Need-to-thousandths-requires
-to-thousandths-requires c κs = search needs
+to-thousandths-requires-2 : tie.Need-to-thousandths-requires-2
+to-thousandths-requires-2 c κs = search needs
 
 returns-3 : tie.Need-returns-3
 unfolding scaledReading
 returns-3 c =
     let b = c .before in
     let s = b .before .before .before .before in
-    rw (given (b .before .before .before)) (c .to-thousandths .ensures ∙ rw (toZ-ofZ w64 (s .args .raw) (s .fits .raw), b .scale-of .ensures .0, b .scale-of .ensures .1, read-number s) (natural-number (b .before) .reads))
+    rw (given (b .before .before .before)) (c .to-thousandths2 .ensures ∙ rw (toZ-ofZ w64 (s .args .raw) (s .fits .raw), b .scale-of .ensures .0, b .scale-of .ensures .1, read-number s) (natural-number (b .before) .reads))
 
 pub scaled-reading-spec : {M : Type 1} → statement M
-scaled-reading-spec = tie.close (tie.spec returns returns-2 cast-scale-of scale-of-requires to-thousandths-requires returns-3)
+scaled-reading-spec = tie.close (tie.spec returns to-thousandths-requires returns-2 cast-scale-of scale-of-requires to-thousandths-requires-2 returns-3)

@@ -1,10 +1,10 @@
--- `readings::to_thousandths` meets its contract: the four tests are those of `defined`, and past them numerator and denominator fit their words. Assumes nothing.
-use mathlib.Core.Path.{_≡_, ap, _∙_}
+-- `readings::to_thousandths` meets its contract: the four tests are those of the three numbers, in their order, and past them numerator and denominator fit their words. Assumes nothing.
+use mathlib.Core.Path.{_≡_, sym, ap, _∙_}
 use mathlib.Core.Bool.{true}
 use Prim.Native.Nat.{ℕ, _+_, _^_, _≤_, _<_}
 use native.Mathlib.Nat.{lt-of-lt-of-le, mul-pos}
 use native.Mathlib.Omega.{arith}
-use borrow.Author.Needs.{sfits-of}
+use borrow.Author.Needs.{needs, sfits-of}
 use borrow.Author.Tests.{leb-true, le-leb, lt-leb}
 use lib.Dec.{lt→ltb}
 use lib.IntN.{ℤ, pos, negsuc, natAbs, _*ℤ_}
@@ -13,7 +13,9 @@ use lib.Signed.{leZ}
 use mir.Syntax.{w64}
 use mir.Val.{SFits}
 use mir.Facts.{toZ-ofZ, toZ-pos}
-use Rattle.readings.specs.Thousandths.{value, numerator, denominator, thousandths, defined, reading}
+use Rattle.refusals.specs.Stages.{require, orElse}
+use Rattle.refusals.specs.Ranges.{firstMisfit}
+use Rattle.readings.specs.Thousandths.{value, numerator, denominator, thousandths, numbers, readWhere, reading}
 use Rattle.readings.proofs.Held.{read, fits-as, read-as, size-product, product-fits, below-least, from-least, above-greatest, to-greatest}
 use Rattle.readings.proofs.to_thousandths.Statement.{statement}
 use Rattle.readings.proofs.to_thousandths.Tie as tie
@@ -46,11 +48,24 @@ denominator-small e f he hf = (mul-pos (omega arith) (pow-pos e), lt-of-lt-of-le
 back : (s : tie.Start) → read (s .args .raw) ≡ s .args .raw
 back s = toZ-ofZ (s .fits .raw)
 
+outside-requires : tie.Need-outside-requires
+outside-requires c κs = search needs
+
+outside-requires-2 : tie.Need-outside-requires-2
+outside-requires-2 c κs = search needs
+
+outside-requires-3 : tie.Need-outside-requires-3
+outside-requires-3 c κs = search needs
+
+outside-requires-4 : tie.Need-outside-requires-4
+outside-requires-4 c κs = search needs
+
 returns : tie.Need-returns
-unfolding reading defined
+unfolding reading numbers firstMisfit orElse require readWhere
 returns c =
-    let s = c .before in
-    rw (below-least (s .args .raw) {m = 32767} (rw (back s) at (c .if1 .taken)) (omega arith))
+    let t = c .before in
+    let s = t .before in
+    c .outside .ensures ∙ sym (rw (below-least (s .args .raw) {m = 32767} (rw (back s) at (t .if1 .taken)) (omega arith)))
 
 -- past the first test, and past the second
 least : (c : tie.Else1) → leZ (negsuc 32767) (c .before .args .raw) ≡ true
@@ -64,20 +79,25 @@ greatest c =
     to-greatest (s .args .raw) {m = 65535} (rw (back s) at (c .if2 .left)) (omega arith)
 
 returns-2 : tie.Need-returns-2
-unfolding reading defined
+unfolding reading numbers firstMisfit orElse require readWhere
 returns-2 c =
-    let s = c .before .before in
-    rw (least (c .before), above-greatest (s .args .raw) {m = 65535} (rw (back s) at (c .if2 .taken)) (omega arith))
+    let t = c .before in
+    let s = t .before .before in
+    c .outside2 .ensures ∙ sym (rw (least (t .before), above-greatest (s .args .raw) {m = 65535} (rw (back s) at (t .if2 .taken)) (omega arith)))
 
 returns-3 : tie.Need-returns-3
-unfolding reading defined
-returns-3 c = rw (least (c .before .before), greatest (c .before), lt-leb (c .before .before .before .args .e) 31 (omega arith))
+unfolding reading numbers firstMisfit orElse require readWhere
+returns-3 c =
+    let t = c .before in
+    c .outside3 .ensures ∙ sym (rw (least (t .before .before), greatest (t .before), lt-leb (t .before .before .before .args .e) 31 (omega arith)))
 
 returns-4 : tie.Need-returns-4
-unfolding reading defined
+unfolding reading numbers firstMisfit orElse require readWhere
 returns-4 c =
-    let s = c .before .before .before .before in
-    rw (least (c .before .before .before), greatest (c .before .before), le-leb (s .args .e) 31 (omega arith), lt-leb (s .args .f) 2047 (omega arith))
+    let t = c .before in
+    let s = t .before .before .before .before in
+    c .outside4 .ensures
+    ∙ sym (rw (least (t .before .before .before), greatest (t .before .before), le-leb (s .args .e) 31 (t .before .if3 .left), lt-leb (s .args .f) 2047 (omega arith)))
 
 denominator-of-requires : tie.Need-denominator-of-requires
 denominator-of-requires c κs = omega arith
@@ -105,7 +125,7 @@ divide-nearest-requires : tie.Need-divide-nearest-requires
 divide-nearest-requires c κs = rw (toZ-pos w64 (over c .1)) (record { lt = lt→ltb 0 _ (over c .0) })
 
 returns-5 : tie.Need-returns-5
-unfolding reading defined thousandths
+unfolding reading numbers firstMisfit orElse require readWhere thousandths
 returns-5 c =
     let b = c .before in
     let s = b .before .before .before .before .before in
@@ -119,9 +139,13 @@ pub to-thousandths-spec : {M : Type 1} → statement M
 to-thousandths-spec =
     tie.close
     (tie.spec
+    outside-requires
     returns
+    outside-requires-2
     returns-2
+    outside-requires-3
     returns-3
+    outside-requires-4
     returns-4
     denominator-of-requires
     cast-denominator

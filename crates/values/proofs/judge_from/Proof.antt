@@ -5,10 +5,11 @@ use native.Mathlib.Nat.{sub-zero}
 use native.Mathlib.Omega.{arith}
 use borrow.Author.Needs.{needs}
 use Rattle.refusals.specs.Stages.{orElse}
+use Rattle.refusals.specs.Ranges.{firstMisfit}
 use Rattle.refusals.specs.declared.Judgement.{Judgement}
 use Rattle.channels.specs.Channel.{widthOf}
 use Rattle.points.specs.Points.{channels}
-use Rattle.values.specs.Values.{size, judgePoint, judgeFrom}
+use Rattle.values.specs.Values.{size, samplesIn, samplesFrom}
 use Rattle.values.specs.Parts.{AllAt, Inside}
 use Rattle.values.proofs.Lent.{NextPoint, next-point, next-judged, last-judged}
 use Rattle.values.proofs.judge_from.Statement.{statement}
@@ -17,7 +18,7 @@ use Rattle.values.proofs.judge_from.Tie as tie
 abbrev Inv-loop : tie.InvT-loop
 Inv-loop values count step stride format stored from₀ i₀ from i =
     (i ≤ count) × AllAt (Inside values stride (size stored)) step (count - i) from
-    × (judgeFrom (widthOf format) stride (channels stored) values step count 0 ≡ judgeFrom (widthOf format) stride (channels stored) values step (count - i) from)
+    × (firstMisfit (samplesFrom (widthOf format) stride (channels stored) values step count 0) ≡ firstMisfit (samplesFrom (widthOf format) stride (channels stored) values step (count - i) from))
 
 abbrev μ-loop : tie.MeasureT-loop
 μ-loop values count step stride format stored from₀ i₀ from i = count - i
@@ -34,12 +35,12 @@ module _ (c : tie.In-loop Inv-loop μ-loop) where
   next = next-point _ _ _ _ (start .args .count) (c .before .loop .i) _ (c .loop-test .taken) (start .pre .3) (c .before .loop .inv .1)
 
   abbrev here : Judgement
-  here = judgePoint (widthOf (start .args .format)) (start .args .stride) (channels (start .args .stored .now)) (start .args .values .now) (c .before .loop .from)
+  here = firstMisfit (samplesIn (widthOf (start .args .format)) (start .args .stride) (channels (start .args .stored .now)) (start .args .values .now) (c .before .loop .from))
 
   abbrev later : Judgement
-  later = judgeFrom (widthOf (start .args .format)) (start .args .stride) (channels (start .args .stored .now)) (start .args .values .now) (start .args .step) (start .args .count - (c .before .loop .i + 1)) (c .before .loop .from + start .args .step)
+  later = firstMisfit (samplesFrom (widthOf (start .args .format)) (start .args .stride) (channels (start .args .stored .now)) (start .args .values .now) (start .args .step) (start .args .count - (c .before .loop .i + 1)) (c .before .loop .from + start .args .step))
 
-  judged : {f : Judgement} → here ≡ f → judgeFrom (widthOf (start .args .format)) (start .args .stride) (channels (start .args .stored .now)) (start .args .values .now) (start .args .step) (start .args .count) 0 ≡ orElse f later
+  judged : {f : Judgement} → here ≡ f → firstMisfit (samplesFrom (widthOf (start .args .format)) (start .args .stride) (channels (start .args .stored .now)) (start .args .values .now) (start .args .step) (start .args .count) 0) ≡ orElse f later
   judged e = c .before .loop .inv .2 ∙ next-judged _ _ _ _ _ (start .args .count) (c .before .loop .i) _ (c .loop-test .taken) ∙ ap (λ f. orElse f later) e
 
 judge-point-requires : tie.Need-judge-point-requires Inv-loop μ-loop

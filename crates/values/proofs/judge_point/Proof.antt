@@ -11,11 +11,12 @@ use lib.ListN.{length, getD}
 use mir.Syntax.{w32}
 use mir.ValLaws.{toZ-ofZ}
 use Rattle.refusals.specs.Stages.{require, orElse}
+use Rattle.refusals.specs.Ranges.{firstMisfit}
 use Rattle.refusals.specs.declared.Quantity.the-variants.{Value}
 use Rattle.refusals.specs.declared.Refusal.the-variants.{OutOfRange}
 use Rattle.channels.specs.Channel.{widthOf}
 use Rattle.points.specs.Points.{channels, fitsSample}
-use Rattle.values.specs.Values.{judgePoint, storedSample}
+use Rattle.values.specs.Values.{samplesIn, storedSample}
 use Rattle.values.specs.Parts.{Inside, many}
 use Rattle.values.proofs.Lent.{judgeLeft, pass-judged, pass-inside, Taken, take-inside, take-judged, judged-none, fits-number, fits-outside}
 use Rattle.values.proofs.judge_point.Statement.{statement}
@@ -24,7 +25,7 @@ use Rattle.values.proofs.judge_point.Tie as tie
 abbrev Inv-loop : tie.InvT-loop
 Inv-loop values from stride format stored index₀ channel₀ index channel =
     (channel ≤ 16) × Inside values stride (many stored channel) index
-    × (judgePoint (widthOf format) stride (channels stored) values from ≡ judgeLeft (widthOf format) stride stored values channel index)
+    × (firstMisfit (samplesIn (widthOf format) stride (channels stored) values from) ≡ judgeLeft (widthOf format) stride stored values channel index)
 
 abbrev μ-loop : tie.MeasureT-loop
 μ-loop values from stride format stored index₀ channel₀ index channel = 16 - channel

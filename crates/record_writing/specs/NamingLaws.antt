@@ -1,0 +1,85 @@
+-- The number that a record's writer names is the first out of its range: the stages that judge numbers stand in stored order, and the others say no 12.
+use mathlib.Core.Path.{_≡_, ap, _∙_}
+use mathlib.Core.Bool.{Bool, true, false, cond, not, _&&_}
+use mathlib.Core.List.{List, [], _∷_}
+use Prim.Native.Nat.{ℕ, _*_}
+use lib.Dec.{eqb, leb, ltb}
+use lib.IntN.{ℤ}
+use lib.ListN.{length}
+use Rattle.formats.specs.Bytes.{impossible}
+use Rattle.formats.specs.Lent.{writing}
+use Rattle.formats.specs.Put.{puts}
+use Rattle.refusals.specs.Stages.{require, orElse, stages}
+use Rattle.refusals.specs.Ranges.{firstMisfit, FirstOutside}
+use Rattle.refusals.specs.RangeLaws.{joined, named-first}
+use Rattle.refusals.specs.declared.Where.the-variants.{Nowhere}
+use Rattle.refusals.specs.declared.Quantity.{Quantity}
+use Rattle.refusals.specs.declared.Quantity.the-variants.{Count}
+use Rattle.refusals.specs.declared.Refusal.the-variants.{XOrY, Untidy, OutOfRange, Amount, ExtendedSize, Room}
+use Rattle.refusals.specs.declared.Judgement.{Judgement}
+use Rattle.refusals.specs.declared.Judgement.the-variants.{Passed, Refused}
+use Rattle.channels.specs.declared.Description.{Description}
+use Rattle.descriptions.specs.Description.{includesXY, tidy}
+use Rattle.description_judging.specs.Judging as described
+use Rattle.values.specs.Values as values
+use Rattle.values.specs.Values.{size, samples}
+use Rattle.values.specs.declared.Order.the-variants.{Point}
+use Rattle.records.specs.Record.{stored, encode}
+use Rattle.record_writing.specs.Write.{recordOf, numbersJudged, judgementOf, putWhere, writeOf}
+use Rattle.record_writing.specs.declared.Written.the-variants as written
+use Rattle.record_writing.specs.Naming.{numbers, NamesFirst}
+
+-- ---- The stages
+
+-- what is left of them where 12 is said: the description's numbers, the count, and the sample values
+in-order : (xy neat : Bool) (attributes : Judgement) (counted amount : Bool) (sampled : Judgement) (small : Bool) (name : Quantity)
+    → orElse
+    (stages (require xy (XOrY Nowhere) ∷ require neat Untidy ∷ attributes ∷ []))
+    (stages (require counted (OutOfRange Count) ∷ orElse (require amount Amount) sampled ∷ require small ExtendedSize ∷ []))
+    ≡ Refused (OutOfRange name)
+    → orElse attributes (orElse (require counted (OutOfRange Count)) sampled) ≡ Refused (OutOfRange name)
+unfolding stages orElse require
+in-order true true (Refused refusal) counted amount sampled small name e = e
+in-order true true Passed false amount sampled small name e = e
+in-order true true Passed true true (Refused refusal) small name e = e
+in-order true true Passed true true Passed true name e = impossible (cc)
+in-order true true Passed true true Passed false name e = impossible (cc)
+in-order true true Passed true false sampled small name e = impossible (cc)
+in-order true false attributes counted amount sampled small name e = impossible (cc)
+in-order false neat attributes counted amount sampled small name e = impossible (cc)
+
+module _ (d : Description) (count : ℕ) (lent : List ℤ) (wanted : Bool) (extended : List ℕ) (name : Quantity) where
+  first : judgementOf d count lent wanted extended ≡ Refused (OutOfRange name) → FirstOutside (numbers d count lent) name
+  unfolding judgementOf described.judgementOf values.judgementOf numbersJudged numbers firstMisfit
+  first e =
+      named-first
+      (numbers d count lent)
+      name
+      (joined (described.numbers 2 d) _
+      ∙ in-order
+      (includesXY d)
+      (tidy d)
+      (firstMisfit (described.numbers 2 d))
+      (not (ltb 16777215 count))
+      (eqb (length lent) (count * size (stored d)))
+      (firstMisfit (samples 2 (stored d) Point count lent))
+      (not (wanted && ltb 65535 (length extended)))
+      name
+      e)
+
+-- ---- The answer
+
+-- 12 is said by a stage: there is no other answer behind them but 15
+by-a-stage : (j : Judgement) (bytes out : List ℕ) (name : Quantity) → written.Refused (OutOfRange name) ≡ putWhere bytes out j .answer → j ≡ Refused (OutOfRange name)
+unfolding putWhere
+by-a-stage Passed bytes out name e = go (leb (length bytes) (length out)) e
+  where
+    go : (t : Bool) → written.Refused (OutOfRange name) ≡ cond t (writing (written.Record (length bytes)) (puts out 0 bytes)) (writing (written.Refused Room) out) .answer → Passed ≡ Refused (OutOfRange name)
+    go true k = impossible (cc)
+    go false k = impossible (cc)
+by-a-stage (Refused refusal) bytes out name e = ap Refused (cc)
+
+pub names-first : NamesFirst
+unfolding writeOf
+names-first d count lent wanted extended out kept name e =
+    first d count lent wanted extended name (by-a-stage (judgementOf d count lent wanted extended) (encode (recordOf d count lent wanted extended)) out name (ap (λ v. v .answer) e))

@@ -1,0 +1,66 @@
+-- The number that a template's writer names is the first out of its range: the stages that judge numbers stand in stored order, and the others say no 12.
+use mathlib.Core.Path.{_≡_, sym, ap, _∙_}
+use mathlib.Core.Bool.{Bool, true, false, cond, not}
+use mathlib.Core.List.{List, [], _∷_, _++_}
+use Prim.Native.Nat.{ℕ}
+use lib.Dec.{leb}
+use lib.ListN.{length, drop}
+use Rattle.formats.specs.Bytes.{impossible}
+use Rattle.formats.specs.Lent.{writing}
+use Rattle.refusals.specs.Stages.{require, orElse, stages, or-else-last}
+use Rattle.refusals.specs.Ranges.{firstMisfit, FirstOutside}
+use Rattle.refusals.specs.RangeLaws.{joined, named-first}
+use Rattle.refusals.specs.declared.Where.the-variants.{Nowhere}
+use Rattle.refusals.specs.declared.Quantity.{Quantity}
+use Rattle.refusals.specs.declared.Quantity.the-variants.{Maximum}
+use Rattle.refusals.specs.declared.Refusal.the-variants.{XOrY, Untidy, OutOfRange, Room}
+use Rattle.refusals.specs.declared.Judgement.{Judgement}
+use Rattle.refusals.specs.declared.Judgement.the-variants as judgement
+use Rattle.channels.specs.declared.Description.{Description}
+use Rattle.descriptions.specs.Description.{includesXY, tidy}
+use Rattle.description_judging.specs.Judging as judging
+use Rattle.templates.specs.Template.{encode}
+use Rattle.templates.specs.Reading.{saying}
+use Rattle.template_writing.specs.Writing.{descriptionStage, exceeds, inRoom, putWhere, judgementOf, writeOf}
+use Rattle.template_writing.specs.declared.Written.the-variants.{Done, Refused}
+use Rattle.template_writing.specs.Naming.{numbers, NamesFirst}
+
+-- ---- The stages
+
+-- what is left of them where 12 is said: the description's numbers and the maximum
+in-order : (xy neat : Bool) (attributes maximum : Judgement) (name : Quantity)
+    → stages (stages (require xy (XOrY Nowhere) ∷ require neat Untidy ∷ attributes ∷ []) ∷ maximum ∷ []) ≡ judgement.Refused (OutOfRange name)
+    → orElse attributes maximum ≡ judgement.Refused (OutOfRange name)
+unfolding stages orElse require
+in-order true true (judgement.Refused refusal) maximum name e = e
+in-order true true judgement.Passed maximum name e = sym (or-else-last maximum) ∙ e
+in-order true false attributes maximum name e = impossible (cc)
+in-order false neat attributes maximum name e = impossible (cc)
+
+module _ (d : Description) (limited : Bool) (maximum : ℕ) (name : Quantity) where
+  first : (described : Bool) → judgementOf described d limited maximum ≡ judgement.Refused (OutOfRange name) → FirstOutside (numbers described d limited maximum) name
+  unfolding judgementOf judging.judgementOf descriptionStage numbers firstMisfit stages orElse
+  first true e =
+      named-first
+      (numbers true d limited maximum)
+      name
+      (joined (judging.numbers 1 d) _
+      ∙ in-order (includesXY d) (tidy d) (firstMisfit (judging.numbers 1 d)) (orElse (require (not (exceeds limited maximum)) (OutOfRange Maximum)) judgement.Passed) name (rw (or-else-last (require (not (exceeds limited maximum)) (OutOfRange Maximum))) e))
+  first false e = named-first (numbers false d limited maximum) name e
+
+-- ---- The answer
+
+-- 12 is said by a stage: there is no other answer behind them but 15
+by-a-stage : (j : Judgement) (bytes out : List ℕ) (name : Quantity) → Refused (OutOfRange name) ≡ putWhere j bytes out .answer → j ≡ judgement.Refused (OutOfRange name)
+unfolding putWhere inRoom
+by-a-stage judgement.Passed bytes out name e = go (leb (length bytes) (length out)) e
+  where
+    go : (t : Bool) → Refused (OutOfRange name) ≡ cond t (writing (Done (length bytes)) (bytes ++ drop (length bytes) out)) (writing (Refused Room) out) .answer → judgement.Passed ≡ judgement.Refused (OutOfRange name)
+    go true k = impossible (cc)
+    go false k = impossible (cc)
+by-a-stage (judgement.Refused refusal) bytes out name e = ap judgement.Refused (cc)
+
+pub names-first : NamesFirst
+unfolding writeOf
+names-first described d limited maximum out kept name e =
+    first d limited maximum name described (by-a-stage (judgementOf described d limited maximum) (encode (saying described d limited maximum)) out name (ap (λ v. v .answer) e))
