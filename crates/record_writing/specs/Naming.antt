@@ -2,17 +2,19 @@
 use mathlib.Core.Path.{_≡_}
 use mathlib.Core.Bool.{Bool, not}
 use mathlib.Core.List.{List, _∷_, _++_}
-use Prim.Native.Nat.{ℕ}
-use lib.Dec.{ltb}
+use Prim.Native.Nat.{ℕ, _*_}
+use lib.Dec.{T, ltb}
 use lib.IntN.{ℤ}
+use lib.ListN.{length}
 use Rattle.formats.specs.Lent.{writing}
 use Rattle.refusals.specs.Ranges.{Ranged, _fitsIf_, FirstOutside}
 use Rattle.refusals.specs.declared.Quantity.{Quantity}
 use Rattle.refusals.specs.declared.Quantity.the-variants.{Count}
 use Rattle.refusals.specs.declared.Refusal.the-variants.{OutOfRange}
 use Rattle.channels.specs.declared.Description.{Description}
+use Rattle.descriptions.specs.Description.{includesXY, tidy}
 use Rattle.description_judging.specs.Judging as described
-use Rattle.values.specs.Values.{samples}
+use Rattle.values.specs.Values.{size, samples}
 use Rattle.values.specs.declared.Order.the-variants.{Point}
 use Rattle.records.specs.Record.{stored}
 use Rattle.record_writing.specs.Write.{writeOf}
@@ -27,3 +29,10 @@ abbrev pub NamesFirst : Type 0
 NamesFirst =
     (d : Description) (count : ℕ) (values : List ℤ) (wanted : Bool) (extended out bytes : List ℕ) (name : Quantity)
     → writing (Refused (OutOfRange name)) bytes ≡ writeOf d count values wanted extended out → FirstOutside (numbers d count values) name
+
+-- and where X and Y are included, the description is tidy and the amount of values is right, the first that is out of its range is named
+abbrev pub NamesEvery : Type 0
+NamesEvery =
+    (d : Description) (count : ℕ) (values : List ℤ) (wanted : Bool) (extended out : List ℕ) (name : Quantity)
+    → T (includesXY d) → T (tidy d) → length values ≡ count * size (stored d) → FirstOutside (numbers d count values) name
+    → writing (Refused (OutOfRange name)) out ≡ writeOf d count values wanted extended out

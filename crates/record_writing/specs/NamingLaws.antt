@@ -1,9 +1,11 @@
 -- The number that a record's writer names is the first out of its range: the stages that judge numbers stand in stored order, and the others say no 12.
-use mathlib.Core.Path.{_≡_, ap, _∙_}
+use mathlib.Core.Path.{_≡_, sym, ap, _∙_}
 use mathlib.Core.Bool.{Bool, true, false, cond, not, _&&_}
 use mathlib.Core.List.{List, [], _∷_}
 use Prim.Native.Nat.{ℕ, _*_}
-use lib.Dec.{eqb, leb, ltb}
+use borrow.Author.Tests.{eq-eqb}
+use lib.Dec.{T, eqb, leb, ltb}
+use lib.Ieee.Bits.{is-true}
 use lib.IntN.{ℤ}
 use lib.ListN.{length}
 use Rattle.formats.specs.Bytes.{impossible}
@@ -11,7 +13,7 @@ use Rattle.formats.specs.Lent.{writing}
 use Rattle.formats.specs.Put.{puts}
 use Rattle.refusals.specs.Stages.{require, orElse, stages}
 use Rattle.refusals.specs.Ranges.{firstMisfit, FirstOutside}
-use Rattle.refusals.specs.RangeLaws.{joined, named-first}
+use Rattle.refusals.specs.RangeLaws.{joined, named-first, first-named}
 use Rattle.refusals.specs.declared.Where.the-variants.{Nowhere}
 use Rattle.refusals.specs.declared.Quantity.{Quantity}
 use Rattle.refusals.specs.declared.Quantity.the-variants.{Count}
@@ -27,7 +29,7 @@ use Rattle.values.specs.declared.Order.the-variants.{Point}
 use Rattle.records.specs.Record.{stored, encode}
 use Rattle.record_writing.specs.Write.{recordOf, numbersJudged, judgementOf, putWhere, writeOf}
 use Rattle.record_writing.specs.declared.Written.the-variants as written
-use Rattle.record_writing.specs.Naming.{numbers, NamesFirst}
+use Rattle.record_writing.specs.Naming.{numbers, NamesFirst, NamesEvery}
 
 -- ---- The stages
 
@@ -48,6 +50,19 @@ in-order true true Passed true false sampled small name e = impossible (cc)
 in-order true false attributes counted amount sampled small name e = impossible (cc)
 in-order false neat attributes counted amount sampled small name e = impossible (cc)
 
+-- and they say it, where the stages between them pass
+in-turn : (attributes : Judgement) (counted : Bool) (sampled : Judgement) (small : Bool) (name : Quantity)
+    → orElse attributes (orElse (require counted (OutOfRange Count)) sampled) ≡ Refused (OutOfRange name)
+    → orElse
+    (stages (require true (XOrY Nowhere) ∷ require true Untidy ∷ attributes ∷ []))
+    (stages (require counted (OutOfRange Count) ∷ orElse (require true Amount) sampled ∷ require small ExtendedSize ∷ []))
+    ≡ Refused (OutOfRange name)
+unfolding stages orElse require
+in-turn (Refused refusal) counted sampled small name e = e
+in-turn Passed false sampled small name e = e
+in-turn Passed true (Refused refusal) small name e = e
+in-turn Passed true Passed small name e = impossible (cc)
+
 module _ (d : Description) (count : ℕ) (lent : List ℤ) (wanted : Bool) (extended : List ℕ) (name : Quantity) where
   first : judgementOf d count lent wanted extended ≡ Refused (OutOfRange name) → FirstOutside (numbers d count lent) name
   unfolding judgementOf described.judgementOf values.judgementOf numbersJudged numbers firstMisfit
@@ -67,6 +82,18 @@ module _ (d : Description) (count : ℕ) (lent : List ℤ) (wanted : Bool) (exte
       name
       e)
 
+  every : T (includesXY d) → T (tidy d) → length lent ≡ count * size (stored d) → FirstOutside (numbers d count lent) name → judgementOf d count lent wanted extended ≡ Refused (OutOfRange name)
+  unfolding judgementOf described.judgementOf values.judgementOf numbersJudged numbers firstMisfit
+  every xy neat amount x =
+      rw (is-true (includesXY d) xy, is-true (tidy d) neat, eq-eqb (length lent) (count * size (stored d)) amount)
+      (in-turn
+      (firstMisfit (described.numbers 2 d))
+      (not (ltb 16777215 count))
+      (firstMisfit (samples 2 (stored d) Point count lent))
+      (not (wanted && ltb 65535 (length extended)))
+      name
+      (sym (joined (described.numbers 2 d) _) ∙ first-named (numbers d count lent) name x))
+
 -- ---- The answer
 
 -- 12 is said by a stage: there is no other answer behind them but 15
@@ -83,3 +110,7 @@ pub names-first : NamesFirst
 unfolding writeOf
 names-first d count lent wanted extended out kept name e =
     first d count lent wanted extended name (by-a-stage (judgementOf d count lent wanted extended) (encode (recordOf d count lent wanted extended)) out name (ap (λ v. v .answer) e))
+
+pub names-every : NamesEvery
+unfolding writeOf putWhere
+names-every d count lent wanted extended out name xy neat amount x = sym (rw (every d count lent wanted extended name xy neat amount x))

@@ -3,13 +3,14 @@ use mathlib.Core.Path.{_≡_, sym, ap, _∙_}
 use mathlib.Core.Bool.{Bool, true, false, cond, not}
 use mathlib.Core.List.{List, [], _∷_, _++_}
 use Prim.Native.Nat.{ℕ}
-use lib.Dec.{leb}
+use lib.Dec.{T, leb}
+use lib.Ieee.Bits.{is-true}
 use lib.ListN.{length, drop}
 use Rattle.formats.specs.Bytes.{impossible}
 use Rattle.formats.specs.Lent.{writing}
 use Rattle.refusals.specs.Stages.{require, orElse, stages, or-else-last}
 use Rattle.refusals.specs.Ranges.{firstMisfit, FirstOutside}
-use Rattle.refusals.specs.RangeLaws.{joined, named-first}
+use Rattle.refusals.specs.RangeLaws.{joined, named-first, first-named}
 use Rattle.refusals.specs.declared.Where.the-variants.{Nowhere}
 use Rattle.refusals.specs.declared.Quantity.{Quantity}
 use Rattle.refusals.specs.declared.Quantity.the-variants.{Maximum}
@@ -23,7 +24,7 @@ use Rattle.templates.specs.Template.{encode}
 use Rattle.templates.specs.Reading.{saying}
 use Rattle.template_writing.specs.Writing.{descriptionStage, exceeds, inRoom, putWhere, judgementOf, writeOf}
 use Rattle.template_writing.specs.declared.Written.the-variants.{Done, Refused}
-use Rattle.template_writing.specs.Naming.{numbers, NamesFirst}
+use Rattle.template_writing.specs.Naming.{numbers, NamesFirst, NamesEvery}
 
 -- ---- The stages
 
@@ -37,6 +38,13 @@ in-order true true judgement.Passed maximum name e = sym (or-else-last maximum) 
 in-order true false attributes maximum name e = impossible (cc)
 in-order false neat attributes maximum name e = impossible (cc)
 
+-- and they say it, where the stages before them pass
+in-turn : (attributes maximum : Judgement) (name : Quantity) → orElse attributes maximum ≡ judgement.Refused (OutOfRange name)
+    → stages (stages (require true (XOrY Nowhere) ∷ require true Untidy ∷ attributes ∷ []) ∷ maximum ∷ []) ≡ judgement.Refused (OutOfRange name)
+unfolding stages orElse require
+in-turn (judgement.Refused refusal) maximum name e = e
+in-turn judgement.Passed maximum name e = or-else-last maximum ∙ e
+
 module _ (d : Description) (limited : Bool) (maximum : ℕ) (name : Quantity) where
   first : (described : Bool) → judgementOf described d limited maximum ≡ judgement.Refused (OutOfRange name) → FirstOutside (numbers described d limited maximum) name
   unfolding judgementOf judging.judgementOf descriptionStage numbers firstMisfit stages orElse
@@ -47,6 +55,14 @@ module _ (d : Description) (limited : Bool) (maximum : ℕ) (name : Quantity) wh
       (joined (judging.numbers 1 d) _
       ∙ in-order (includesXY d) (tidy d) (firstMisfit (judging.numbers 1 d)) (orElse (require (not (exceeds limited maximum)) (OutOfRange Maximum)) judgement.Passed) name (rw (or-else-last (require (not (exceeds limited maximum)) (OutOfRange Maximum))) e))
   first false e = named-first (numbers false d limited maximum) name e
+
+  every : (described : Bool) → (T described → T (includesXY d) × T (tidy d)) → FirstOutside (numbers described d limited maximum) name → judgementOf described d limited maximum ≡ judgement.Refused (OutOfRange name)
+  unfolding judgementOf judging.judgementOf descriptionStage numbers firstMisfit stages orElse
+  every true h x =
+      let m = require (not (exceeds limited maximum)) (OutOfRange Maximum) in
+      rw (is-true (includesXY d) (h tt .0), is-true (tidy d) (h tt .1))
+      (in-turn (firstMisfit (judging.numbers 1 d)) m name (ap (orElse (firstMisfit (judging.numbers 1 d))) (sym (or-else-last m)) ∙ sym (joined (judging.numbers 1 d) _) ∙ first-named (numbers true d limited maximum) name x))
+  every false h x = first-named (numbers false d limited maximum) name x
 
 -- ---- The answer
 
@@ -64,3 +80,7 @@ pub names-first : NamesFirst
 unfolding writeOf
 names-first described d limited maximum out kept name e =
     first d limited maximum name described (by-a-stage (judgementOf described d limited maximum) (encode (saying described d limited maximum)) out name (ap (λ v. v .answer) e))
+
+pub names-every : NamesEvery
+unfolding writeOf putWhere
+names-every described d limited maximum out name h x = sym (rw (every d limited maximum name described h x))
