@@ -20,7 +20,7 @@ use Rattle.refusals.specs.declared.Quantity.{Quantity}
 use Rattle.refusals.specs.declared.Quantity.the-variants as quantity
 use Rattle.refusals.specs.declared.Refusal.the-variants.{XOrY, Untidy, OutOfRange}
 use Rattle.refusals.specs.declared.Judgement.{Judgement}
-use Rattle.refusals.specs.declared.Judgement.the-variants.{Refused}
+use Rattle.refusals.specs.declared.Judgement.the-variants.{Passed, Refused}
 use Rattle.channels.specs.Descriptors.{absent}
 use Rattle.channels.specs.declared.Attribute.{Attribute}
 use Rattle.channels.specs.declared.Descriptor.{Descriptor}
@@ -31,19 +31,26 @@ use Rattle.description_judging.specs.Naming.{NamesFirst, attributeOf, Gi
 
 -- ---- The first
 
--- 4 and 11 name no number
-behind : (xy neat : Bool) (numbered : Judgement) (name : Quantity) → Refused (OutOfRange name) ≡ stages (require xy (XOrY Nowhere) ∷ require neat Untidy ∷ numbered ∷ [])
-    → T xy × (T neat × (numbered ≡ Refused (OutOfRange name)))
-unfolding stages orElse require
-behind true true numbered name e = (tt, (tt, sym (e ∙ or-else-last numbered)))
-behind true false numbered name e = impossible (cc)
-behind false neat numbered name e = impossible (cc)
+module _ (w : ℕ) (d : Description) where
+  -- a description that includes X and Y and is tidy is judged by its numbers
+  pub by-numbers : T (includesXY d) → T (tidy d) → judgementOf w d ≡ firstMisfit (numbers w d)
+  unfolding judgementOf stages orElse require
+  by-numbers xy neat = rw (is-true (includesXY d) xy, is-true (tidy d) neat) (or-else-last (firstMisfit (numbers w d)))
+
+  -- 4 and 11 name no number: of any other description 12 is not said, whatever is judged behind it
+  pub tidy-first : (next : Judgement) (name : Quantity) → orElse (judgementOf w d) next ≡ Refused (OutOfRange name) → T (includesXY d) × T (tidy d)
+  unfolding judgementOf stages orElse require
+  tidy-first next name e = go (includesXY d) (tidy d) e
+    where
+      go : (xy neat : Bool) → orElse (stages (require xy (XOrY Nowhere) ∷ require neat Untidy ∷ firstMisfit (numbers w d) ∷ [])) next ≡ Refused (OutOfRange name) → T xy × T neat
+      go true true h = (tt, tt)
+      go true false h = impossible (cc)
+      go false neat h = impossible (cc)
 
 pub names-first : NamesFirst
-unfolding judgementOf stages orElse require
 names-first w d name = (
-  λ e. let x = behind (includesXY d) (tidy d) (firstMisfit (numbers w d)) name e in (x .0, (x .1 .0, named-first (numbers w d) name (x .1 .1))),
-  λ h. sym (rw (is-true (includesXY d) (h .0), is-true (tidy d) (h .1 .0), first-named (numbers w d) name (h .1 .1))),
+  λ e. let x = tidy-first w d Passed name (or-else-last (judgementOf w d) ∙ sym e) in (x .0, (x .1, named-first (numbers w d) name (sym (e ∙ by-numbers w d (x .0) (x .1))))),
+  λ h. sym (by-numbers w d (h .0) (h .1 .0) ∙ first-named (numbers w d) name (h .1 .1)),
 )
 
 -- ---- Its flag

@@ -1,9 +1,9 @@
 -- Which number refusal 12 of a record's writer names (request L2): what is claimed of it.
 use mathlib.Core.Path.{_≡_}
-use mathlib.Core.Bool.{Bool, not}
+use mathlib.Core.Bool.{Bool}
 use mathlib.Core.List.{List, _∷_, _++_}
 use Prim.Native.Nat.{ℕ, _*_}
-use lib.Dec.{T, ltb}
+use lib.Dec.{T}
 use lib.IntN.{ℤ}
 use lib.ListN.{length}
 use Rattle.formats.specs.Lent.{writing}
@@ -17,12 +17,12 @@ use Rattle.description_judging.specs.Judging as described
 use Rattle.values.specs.Values.{size, samples}
 use Rattle.values.specs.declared.Order.the-variants.{Point}
 use Rattle.records.specs.Record.{stored}
-use Rattle.record_writing.specs.Write.{writeOf}
+use Rattle.record_writing.specs.Write.{countFits, writeOf}
 use Rattle.record_writing.specs.declared.Written.the-variants.{Refused}
 
 -- the numbers of a record in stored order: those of the description, the count, and the sample values in point order
 unfoldable pub numbers : Description → (count : ℕ) (values : List ℤ) → List Ranged
-numbers d count values = described.numbers 2 d ++ (Count fitsIf not (ltb 16777215 count)) ∷ samples 2 (stored d) Point count values
+numbers d count values = described.numbers 2 d ++ (Count fitsIf countFits count) ∷ samples 2 (stored d) Point count values
 
 -- where write answers 12, whatever the output holds then, the number that it names is out of its range, and every earlier one in stored order is in its own
 abbrev pub NamesFirst : Type 0

@@ -5,7 +5,6 @@ use mathlib.Core.List.{List, [], _∷_}
 use Prim.Native.Nat.{ℕ, _*_}
 use borrow.Author.Tests.{eq-eqb}
 use lib.Dec.{T, eqb, leb, ltb}
-use lib.Ieee.Bits.{is-true}
 use lib.IntN.{ℤ}
 use lib.ListN.{length}
 use Rattle.formats.specs.Bytes.{impossible}
@@ -14,49 +13,41 @@ use Rattle.formats.specs.Put.{puts}
 use Rattle.refusals.specs.Stages.{require, orElse, stages}
 use Rattle.refusals.specs.Ranges.{firstMisfit, FirstOutside}
 use Rattle.refusals.specs.RangeLaws.{joined, named-first, first-named}
-use Rattle.refusals.specs.declared.Where.the-variants.{Nowhere}
 use Rattle.refusals.specs.declared.Quantity.{Quantity}
 use Rattle.refusals.specs.declared.Quantity.the-variants.{Count}
-use Rattle.refusals.specs.declared.Refusal.the-variants.{XOrY, Untidy, OutOfRange, Amount, ExtendedSize, Room}
+use Rattle.refusals.specs.declared.Refusal.the-variants.{OutOfRange, Amount, ExtendedSize, Room}
 use Rattle.refusals.specs.declared.Judgement.{Judgement}
 use Rattle.refusals.specs.declared.Judgement.the-variants.{Passed, Refused}
 use Rattle.channels.specs.declared.Description.{Description}
 use Rattle.descriptions.specs.Description.{includesXY, tidy}
 use Rattle.description_judging.specs.Judging as described
+use Rattle.description_judging.specs.NamingLaws.{by-numbers, tidy-first}
 use Rattle.values.specs.Values as values
 use Rattle.values.specs.Values.{size, samples}
 use Rattle.values.specs.declared.Order.the-variants.{Point}
 use Rattle.records.specs.Record.{stored, encode}
-use Rattle.record_writing.specs.Write.{recordOf, numbersJudged, judgementOf, putWhere, writeOf}
+use Rattle.record_writing.specs.Write.{recordOf, countFits, numbersJudged, judgementOf, putWhere, writeOf}
 use Rattle.record_writing.specs.declared.Written.the-variants as written
 use Rattle.record_writing.specs.Naming.{numbers, NamesFirst, NamesEvery}
 
 -- ---- The stages
 
 -- what is left of them where 12 is said: the description's numbers, the count, and the sample values
-in-order : (xy neat : Bool) (attributes : Judgement) (counted amount : Bool) (sampled : Judgement) (small : Bool) (name : Quantity)
-    → orElse
-    (stages (require xy (XOrY Nowhere) ∷ require neat Untidy ∷ attributes ∷ []))
-    (stages (require counted (OutOfRange Count) ∷ orElse (require amount Amount) sampled ∷ require small ExtendedSize ∷ []))
-    ≡ Refused (OutOfRange name)
+in-order : (attributes : Judgement) (counted amount : Bool) (sampled : Judgement) (small : Bool) (name : Quantity)
+    → orElse attributes (stages (require counted (OutOfRange Count) ∷ orElse (require amount Amount) sampled ∷ require small ExtendedSize ∷ [])) ≡ Refused (OutOfRange name)
     → orElse attributes (orElse (require counted (OutOfRange Count)) sampled) ≡ Refused (OutOfRange name)
 unfolding stages orElse require
-in-order true true (Refused refusal) counted amount sampled small name e = e
-in-order true true Passed false amount sampled small name e = e
-in-order true true Passed true true (Refused refusal) small name e = e
-in-order true true Passed true true Passed true name e = impossible (cc)
-in-order true true Passed true true Passed false name e = impossible (cc)
-in-order true true Passed true false sampled small name e = impossible (cc)
-in-order true false attributes counted amount sampled small name e = impossible (cc)
-in-order false neat attributes counted amount sampled small name e = impossible (cc)
+in-order (Refused refusal) counted amount sampled small name e = e
+in-order Passed false amount sampled small name e = e
+in-order Passed true true (Refused refusal) small name e = e
+in-order Passed true true Passed true name e = impossible (cc)
+in-order Passed true true Passed false name e = impossible (cc)
+in-order Passed true false sampled small name e = impossible (cc)
 
--- and they say it, where the stages between them pass
+-- and they say it, where the amount is right
 in-turn : (attributes : Judgement) (counted : Bool) (sampled : Judgement) (small : Bool) (name : Quantity)
     → orElse attributes (orElse (require counted (OutOfRange Count)) sampled) ≡ Refused (OutOfRange name)
-    → orElse
-    (stages (require true (XOrY Nowhere) ∷ require true Untidy ∷ attributes ∷ []))
-    (stages (require counted (OutOfRange Count) ∷ orElse (require true Amount) sampled ∷ require small ExtendedSize ∷ []))
-    ≡ Refused (OutOfRange name)
+    → orElse attributes (stages (require counted (OutOfRange Count) ∷ orElse (require true Amount) sampled ∷ require small ExtendedSize ∷ [])) ≡ Refused (OutOfRange name)
 unfolding stages orElse require
 in-turn (Refused refusal) counted sampled small name e = e
 in-turn Passed false sampled small name e = e
@@ -64,35 +55,27 @@ in-turn Passed true (Refused refusal) small name e = e
 in-turn Passed true Passed small name e = impossible (cc)
 
 module _ (d : Description) (count : ℕ) (lent : List ℤ) (wanted : Bool) (extended : List ℕ) (name : Quantity) where
+  abbrev attributes : Judgement
+  attributes = firstMisfit (described.numbers 2 d)
+
+  abbrev sampled : Judgement
+  sampled = firstMisfit (samples 2 (stored d) Point count lent)
+
   first : judgementOf d count lent wanted extended ≡ Refused (OutOfRange name) → FirstOutside (numbers d count lent) name
-  unfolding judgementOf described.judgementOf values.judgementOf numbersJudged numbers firstMisfit
+  unfolding judgementOf values.judgementOf numbersJudged numbers firstMisfit
   first e =
+      let x = tidy-first 2 d (numbersJudged (stored d) count lent wanted extended) name e in
+      let e′ = rw (by-numbers 2 d (x .0) (x .1)) at e in
       named-first
       (numbers d count lent)
       name
-      (joined (described.numbers 2 d) _
-      ∙ in-order
-      (includesXY d)
-      (tidy d)
-      (firstMisfit (described.numbers 2 d))
-      (not (ltb 16777215 count))
-      (eqb (length lent) (count * size (stored d)))
-      (firstMisfit (samples 2 (stored d) Point count lent))
-      (not (wanted && ltb 65535 (length extended)))
-      name
-      e)
+      (joined (described.numbers 2 d) _ ∙ in-order attributes (countFits count) (eqb (length lent) (count * size (stored d))) sampled (not (wanted && ltb 65535 (length extended))) name e′)
 
   every : T (includesXY d) → T (tidy d) → length lent ≡ count * size (stored d) → FirstOutside (numbers d count lent) name → judgementOf d count lent wanted extended ≡ Refused (OutOfRange name)
-  unfolding judgementOf described.judgementOf values.judgementOf numbersJudged numbers firstMisfit
+  unfolding judgementOf values.judgementOf numbersJudged numbers firstMisfit
   every xy neat amount x =
-      rw (is-true (includesXY d) xy, is-true (tidy d) neat, eq-eqb (length lent) (count * size (stored d)) amount)
-      (in-turn
-      (firstMisfit (described.numbers 2 d))
-      (not (ltb 16777215 count))
-      (firstMisfit (samples 2 (stored d) Point count lent))
-      (not (wanted && ltb 65535 (length extended)))
-      name
-      (sym (joined (described.numbers 2 d) _) ∙ first-named (numbers d count lent) name x))
+      rw (by-numbers 2 d xy neat, eq-eqb (length lent) (count * size (stored d)) amount)
+      (in-turn attributes (countFits count) sampled (not (wanted && ltb 65535 (length extended))) name (sym (joined (described.numbers 2 d) _) ∙ first-named (numbers d count lent) name x))
 
 -- ---- The answer
 

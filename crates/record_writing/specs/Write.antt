@@ -29,8 +29,11 @@ recordOf d count numbers wanted extended =
     record { description = d; points = pointsOf Point count (size (stored d)) numbers; extended = cond wanted (some extended) none }
 
 -- three bytes hold the count, and two the length of extended data that are wanted
+abbrev pub countFits : (count : ℕ) → Bool
+countFits count = not (ltb 16777215 count)
+
 abbrev pub countStage : (count : ℕ) → Judgement
-countStage count = require (not (ltb 16777215 count)) (OutOfRange quantity.Count)
+countStage count = require (countFits count) (OutOfRange quantity.Count)
 
 abbrev pub extendedStage : (wanted : Bool) (extended : List ℕ) → Judgement
 extendedStage wanted extended = require (not (wanted && ltb 65535 (length extended))) ExtendedSize

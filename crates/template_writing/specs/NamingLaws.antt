@@ -1,67 +1,43 @@
 -- The number that a template's writer names is the first out of its range: the stages that judge numbers stand in stored order, and the others say no 12.
 use mathlib.Core.Path.{_≡_, sym, ap, _∙_}
-use mathlib.Core.Bool.{Bool, true, false, cond, not}
+use mathlib.Core.Bool.{Bool, true, false, cond}
 use mathlib.Core.List.{List, [], _∷_, _++_}
 use Prim.Native.Nat.{ℕ}
 use lib.Dec.{T, leb}
-use lib.Ieee.Bits.{is-true}
 use lib.ListN.{length, drop}
 use Rattle.formats.specs.Bytes.{impossible}
 use Rattle.formats.specs.Lent.{writing}
-use Rattle.refusals.specs.Stages.{require, orElse, stages, or-else-last}
+use Rattle.refusals.specs.Stages.{orElse, stages}
 use Rattle.refusals.specs.Ranges.{firstMisfit, FirstOutside}
 use Rattle.refusals.specs.RangeLaws.{joined, named-first, first-named}
-use Rattle.refusals.specs.declared.Where.the-variants.{Nowhere}
 use Rattle.refusals.specs.declared.Quantity.{Quantity}
-use Rattle.refusals.specs.declared.Quantity.the-variants.{Maximum}
-use Rattle.refusals.specs.declared.Refusal.the-variants.{XOrY, Untidy, OutOfRange, Room}
+use Rattle.refusals.specs.declared.Refusal.the-variants.{OutOfRange, Room}
 use Rattle.refusals.specs.declared.Judgement.{Judgement}
 use Rattle.refusals.specs.declared.Judgement.the-variants as judgement
 use Rattle.channels.specs.declared.Description.{Description}
 use Rattle.descriptions.specs.Description.{includesXY, tidy}
 use Rattle.description_judging.specs.Judging as judging
+use Rattle.description_judging.specs.NamingLaws.{by-numbers, tidy-first}
 use Rattle.templates.specs.Template.{encode}
 use Rattle.templates.specs.Reading.{saying}
-use Rattle.template_writing.specs.Writing.{descriptionStage, exceeds, inRoom, putWhere, judgementOf, writeOf}
+use Rattle.template_writing.specs.Writing.{descriptionStage, maximumStage, inRoom, putWhere, judgementOf, writeOf}
 use Rattle.template_writing.specs.declared.Written.the-variants.{Done, Refused}
 use Rattle.template_writing.specs.Naming.{numbers, NamesFirst, NamesEvery}
 
 -- ---- The stages
 
--- what is left of them where 12 is said: the description's numbers and the maximum
-in-order : (xy neat : Bool) (attributes maximum : Judgement) (name : Quantity)
-    → stages (stages (require xy (XOrY Nowhere) ∷ require neat Untidy ∷ attributes ∷ []) ∷ maximum ∷ []) ≡ judgement.Refused (OutOfRange name)
-    → orElse attributes maximum ≡ judgement.Refused (OutOfRange name)
-unfolding stages orElse require
-in-order true true (judgement.Refused refusal) maximum name e = e
-in-order true true judgement.Passed maximum name e = sym (or-else-last maximum) ∙ e
-in-order true false attributes maximum name e = impossible (cc)
-in-order false neat attributes maximum name e = impossible (cc)
-
--- and they say it, where the stages before them pass
-in-turn : (attributes maximum : Judgement) (name : Quantity) → orElse attributes maximum ≡ judgement.Refused (OutOfRange name)
-    → stages (stages (require true (XOrY Nowhere) ∷ require true Untidy ∷ attributes ∷ []) ∷ maximum ∷ []) ≡ judgement.Refused (OutOfRange name)
-unfolding stages orElse require
-in-turn (judgement.Refused refusal) maximum name e = e
-in-turn judgement.Passed maximum name e = or-else-last maximum ∙ e
-
+-- behind 4 and 11 they are the description's numbers and the maximum, one behind the other
 module _ (d : Description) (limited : Bool) (maximum : ℕ) (name : Quantity) where
   first : (described : Bool) → judgementOf described d limited maximum ≡ judgement.Refused (OutOfRange name) → FirstOutside (numbers described d limited maximum) name
-  unfolding judgementOf judging.judgementOf descriptionStage numbers firstMisfit stages orElse
+  unfolding judgementOf descriptionStage numbers firstMisfit stages orElse
   first true e =
-      named-first
-      (numbers true d limited maximum)
-      name
-      (joined (judging.numbers 1 d) _
-      ∙ in-order (includesXY d) (tidy d) (firstMisfit (judging.numbers 1 d)) (orElse (require (not (exceeds limited maximum)) (OutOfRange Maximum)) judgement.Passed) name (rw (or-else-last (require (not (exceeds limited maximum)) (OutOfRange Maximum))) e))
+      let x = tidy-first 1 d (stages (maximumStage limited maximum ∷ [])) name e in
+      named-first (numbers true d limited maximum) name (joined (judging.numbers 1 d) _ ∙ (rw (by-numbers 1 d (x .0) (x .1)) at e))
   first false e = named-first (numbers false d limited maximum) name e
 
   every : (described : Bool) → (T described → T (includesXY d) × T (tidy d)) → FirstOutside (numbers described d limited maximum) name → judgementOf described d limited maximum ≡ judgement.Refused (OutOfRange name)
-  unfolding judgementOf judging.judgementOf descriptionStage numbers firstMisfit stages orElse
-  every true h x =
-      let m = require (not (exceeds limited maximum)) (OutOfRange Maximum) in
-      rw (is-true (includesXY d) (h tt .0), is-true (tidy d) (h tt .1))
-      (in-turn (firstMisfit (judging.numbers 1 d)) m name (ap (orElse (firstMisfit (judging.numbers 1 d))) (sym (or-else-last m)) ∙ sym (joined (judging.numbers 1 d) _) ∙ first-named (numbers true d limited maximum) name x))
+  unfolding judgementOf descriptionStage numbers firstMisfit stages orElse
+  every true h x = rw (by-numbers 1 d (h tt .0) (h tt .1)) (sym (joined (judging.numbers 1 d) _) ∙ first-named (numbers true d limited maximum) name x)
   every false h x = first-named (numbers false d limited maximum) name x
 
 -- ---- The answer
