@@ -17,6 +17,8 @@ struct side {
     typeof(costs_judge) *judge;
     typeof(costs_describe) *describe;
     typeof(costs_point) *point;
+    typeof(costs_look_up) *look_up;
+    typeof(costs_look_up_point) *look_up_point;
     typeof(costs_extended) *extended;
     typeof(costs_rest) *rest;
     typeof(costs_write) *write;
@@ -29,8 +31,8 @@ struct side {
 
 #define SIDE(s)                                                                                                        \
     {                                                                                                                  \
-        s##_judge, s##_describe, s##_point, s##_extended, s##_rest, s##_write, s##_step, s##_read_template,            \
-            s##_write_template, s##_thousandths, s##_place                                                             \
+        s##_judge, s##_describe, s##_point, s##_look_up, s##_look_up_point, s##_extended, s##_rest, s##_write,         \
+            s##_step, s##_read_template, s##_write_template, s##_thousandths, s##_place                                \
     }
 
 static const struct side rattle = SIDE(costs), twin = SIDE(twin);
@@ -43,7 +45,8 @@ __attribute__((naked)) static void nothing(void)
 
 static const struct side empty = {
     (void *)nothing, (void *)nothing, (void *)nothing, (void *)nothing, (void *)nothing, (void *)nothing,
-    (void *)nothing, (void *)nothing, (void *)nothing, (void *)nothing, (void *)nothing,
+    (void *)nothing, (void *)nothing, (void *)nothing, (void *)nothing, (void *)nothing, (void *)nothing,
+    (void *)nothing,
 };
 
 // ---- Inputs
@@ -203,6 +206,33 @@ static bool count_row(const struct side *side, const char *row, size_t size)
     } else if (is(row, "point-full")) { // the last of `size` points of fifteen channels
         n = put_record(bytes, ALL, EVERY, false, size, -1);
         BETWEEN(side->point(bytes, n, size - 1, Y));
+    } else if (is(row, "look-up")) { // the last of `size` points of X and Y
+        n = put_record(bytes, XY, BARE, false, size, -1);
+        BETWEEN(side->look_up(bytes, n, size - 1));
+    } else if (is(row, "look-up-index")) { // the point of index `size`, of 1,000 points of X and Y
+        n = put_record(bytes, XY, BARE, false, 1000, -1);
+        BETWEEN(side->look_up(bytes, n, size));
+    } else if (is(row, "look-up-constant")) { // the last of `size` points of X, Y and a constant S
+        n = put_record(bytes, XY | SWITCH, BARE, false, size, -1);
+        BETWEEN(side->look_up(bytes, n, size - 1));
+    } else if (is(row, "look-up-switch")) { // the last of `size` points of X, Y and S
+        n = put_record(bytes, XY | SWITCH, BARE, true, size, -1);
+        BETWEEN(side->look_up(bytes, n, size - 1));
+    } else if (is(row, "look-up-full")) { // the last of `size` points of sixteen channels
+        n = put_record(bytes, ALL, EVERY, true, size, -1);
+        BETWEEN(side->look_up(bytes, n, size - 1));
+    } else if (is(row, "look-up-point")) { // the places of the same points
+        n = put_record(bytes, XY, BARE, false, size, -1);
+        BETWEEN(side->look_up_point(bytes, n, size - 1, Y));
+    } else if (is(row, "look-up-point-constant")) {
+        n = put_record(bytes, XY | SWITCH, BARE, false, size, -1);
+        BETWEEN(side->look_up_point(bytes, n, size - 1, Y));
+    } else if (is(row, "look-up-point-switch")) {
+        n = put_record(bytes, XY | SWITCH, BARE, true, size, -1);
+        BETWEEN(side->look_up_point(bytes, n, size - 1, Y));
+    } else if (is(row, "look-up-point-full")) {
+        n = put_record(bytes, ALL, EVERY, true, size, -1);
+        BETWEEN(side->look_up_point(bytes, n, size - 1, Y));
     } else if (is(row, "extended")) { // `size` bytes of extended data
         n = put_record(bytes, XY, BARE, false, 100, size);
         BETWEEN(side->extended(bytes, n));
@@ -308,7 +338,12 @@ static bool same_reading(const uint8_t *s, size_t n)
         for (size_t index = 0; index < 4; index++) {
             struct seat p = costs_point(s, n, index, c), q = twin_point(s, n, index, c);
             SAME(p.kind == q.kind && p.value == q.value, "point");
+            SAME(costs_look_up_point(s, n, index, c) == twin_look_up_point(s, n, index, c), "look up, its places");
         }
+    }
+    for (size_t index = 0; index < 4; index++) {
+        struct looked a = costs_look_up(s, n, index), b = twin_look_up(s, n, index);
+        SAME(a.number == b.number && a.looked == b.looked, "look up");
     }
     struct piece e = costs_extended(s, n), f = twin_extended(s, n);
     SAME(e.length == f.length && e.first == f.first, "extended");

@@ -36,6 +36,11 @@ struct seat {
     int32_t value;
 };
 
+struct looked {
+    uint64_t number;
+    size_t looked;
+};
+
 struct piece {
     size_t length;
     uint8_t first;
@@ -71,6 +76,8 @@ struct told_reading {
     struct judgement side##_judge(const uint8_t *s, size_t n, size_t channel);                                         \
     struct told side##_describe(const uint8_t *s, size_t n, bool compact, size_t channel);                             \
     struct seat side##_point(const uint8_t *s, size_t n, size_t index, size_t channel);                                \
+    struct looked side##_look_up(const uint8_t *s, size_t n, size_t index);                                            \
+    int32_t side##_look_up_point(const uint8_t *s, size_t n, size_t index, size_t channel);                            \
     struct piece side##_extended(const uint8_t *s, size_t n);                                                          \
     struct piece side##_rest(const uint8_t *s, size_t n);                                                              \
     struct finished side##_write(const uint8_t *header, size_t size, size_t count, const int32_t *values,              \

@@ -1,7 +1,8 @@
 //! The answer that `ask` should give to a line.
 
 use crate::description::words as channel_words;
-use crate::record::{self, Record, Step};
+use crate::lookup::{self, LookedUp};
+use crate::record::{self, Place, Record, Step};
 use crate::refusal::Refusal;
 use crate::template::{self, Template};
 use crate::thousandths::{of_place, thousandths, Reading};
@@ -39,6 +40,7 @@ fn read(line: &[u8]) -> Read<String> {
         b"extended" => Ok(format!("bytes {}", hex(record::extended(&words.bytes()?)))),
         b"rest" => Ok(format!("bytes {}", hex(record::rest(&words.bytes()?)))),
         b"point" => point(&mut words),
+        b"look-up" => look_up(&mut words),
         b"write" => write(&mut words),
         b"step" => step(&mut words),
         b"template" => Ok(template(&words.bytes()?)),
@@ -84,12 +86,23 @@ fn verdict(judged: Result<Record, Refusal>) -> String {
 fn point(words: &mut Words) -> Read<String> {
     let index = words.number(words::NOT_NEGATIVE)?;
     Ok(match record::point(&words.bytes()?, index) {
-        Ok(places) => {
-            let places: String = places.map(|place| format!(" {}", place.text())).concat();
-            format!("point{places}")
-        }
+        Ok(places) => format!("point{}", sixteen(places)),
         Err(refusal) => refusal.text(),
     })
+}
+
+fn look_up(words: &mut Words) -> Read<String> {
+    let index = words.number(words::NOT_NEGATIVE)?;
+    let LookedUp { answer, looked } = lookup::look_up(&words.bytes()?, index);
+    Ok(match answer {
+        Ok(places) => format!("point {looked}{}", sixteen(places)),
+        Err(refusal) => format!("{} looked {looked}", refusal.text()),
+    })
+}
+
+/// The places of a point, a space before each.
+fn sixteen(places: [Place; 16]) -> String {
+    places.map(|place| format!(" {}", place.text())).concat()
 }
 
 fn write(words: &mut Words) -> Read<String> {

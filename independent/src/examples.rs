@@ -1,6 +1,7 @@
 //! Examples with answers typed from the papers, never worked out here.
 
 use crate::compare::Comparison;
+use crate::lookup_examples::{self, LOOKUP_EXAMPLES};
 use crate::naming_examples::NAMING_EXAMPLES;
 
 const SCOPE: &str = "examples of document 01";
@@ -9,6 +10,7 @@ const ANNEX: &str = "examples of annex C";
 const ORDER: &str = "examples of request L11";
 const CALIBRATION: &str = "examples of request L3";
 const NAMING: &str = "examples of request L2";
+pub const LOOKUP: &str = "examples of request L7";
 
 /// M of document 01: a record with no points.
 const M: &[u8] = &[
@@ -29,11 +31,13 @@ pub fn ask_all(comparison: &mut Comparison) {
         (ORDER, ORDER_EXAMPLES),
         (CALIBRATION, CALIBRATION_EXAMPLES),
         (NAMING, NAMING_EXAMPLES),
+        (LOOKUP, LOOKUP_EXAMPLES),
     ] {
         for (line, answer) in examples {
             comparison.ask_typed(kind, line, answer);
         }
     }
+    lookup_examples::greatest(comparison);
     whole_annex_record(comparison);
     listings(comparison);
 }
@@ -135,6 +139,14 @@ const ASK_EXAMPLES: Typed = &[
     (
         "point 0 53444900 20313000 C000 00 00 00 00 000001 7FFF 8000",
         "point -1 0 . . . . . . . . . . . . . .",
+    ),
+    (
+        "look-up 1 53444900 20313000 C000 00 04 00 00 000002 8005 8006 FF",
+        "point 19 6 - . . . . . . . . . . . . . .",
+    ),
+    (
+        "look-up 2 53444900 20313000 C000 00 00 00 00 000002",
+        "refused 10 looked 17",
     ),
     (
         "write 1 -1,0 ! 23 X Y",
@@ -415,7 +427,15 @@ pub const UNREADABLE: Typed = &[
     ("writetemplate ! 5 !", NO_QUESTION),
     ("write_template ! 5 !", NO_QUESTION),
     ("record 17 0 plain X Y", NO_QUESTION),
+    ("lookup 0 53", NO_QUESTION),
+    ("look_up 0 53", NO_QUESTION),
+    ("look up 0 53", NO_QUESTION),
+    ("Look-up 0 53", NO_QUESTION),
+    ("look-up0 53", NO_QUESTION),
+    ("look- 0 53", NO_QUESTION),
     ("point", MISSING),
+    ("look-up", MISSING),
+    ("look-up  \t", MISSING),
     ("step", MISSING),
     ("write", MISSING),
     ("write 0", MISSING),
@@ -437,6 +457,20 @@ pub const UNREADABLE: Typed = &[
     ("point 0x1 53", NOT_NUMBER),
     ("point 1234567890123456789 53", NOT_NUMBER),
     ("point 0000000000000000000 53", NOT_NUMBER),
+    ("look-up x 53", NOT_NUMBER),
+    ("look-up -1 53", NOT_NUMBER),
+    ("look-up - 53", NOT_NUMBER),
+    ("look-up ! 53", NOT_NUMBER),
+    ("look-up +1 53", NOT_NUMBER),
+    ("look-up 1.0 53", NOT_NUMBER),
+    ("look-up 0x1 53", NOT_NUMBER),
+    ("look-up 5A", NOT_NUMBER),
+    ("look-up 1000000000000000000 53", NOT_NUMBER),
+    ("look-up 0000000000000000000 53", NOT_NUMBER),
+    ("look-up 9223372036854775807 53", NOT_NUMBER),
+    ("look-up 9223372036854775808 53", NOT_NUMBER),
+    ("look-up 18446744073709551615 53", NOT_NUMBER),
+    ("look-up 18446744073709551616", NOT_NUMBER),
     ("step x 53", NOT_NUMBER),
     ("step -1 53", NOT_NUMBER),
     ("step 1234567890123456789 53", NOT_NUMBER),
@@ -500,6 +534,13 @@ pub const UNREADABLE: Typed = &[
     ("template xx", NOT_BYTES),
     ("template B1 0", NOT_BYTES),
     ("point 0 xx", NOT_BYTES),
+    ("look-up 0 xx", NOT_BYTES),
+    ("look-up 0 5", NOT_BYTES),
+    ("look-up 0 53 4", NOT_BYTES),
+    ("look-up 0 -", NOT_BYTES),
+    ("look-up 0 !", NOT_BYTES),
+    // Also where the bytes before already decide.
+    ("look-up 0 00 x", NOT_BYTES),
     ("step 0 xx", NOT_BYTES),
     ("write 0 - x 20 X Y", NOT_BYTES),
     ("write 0 - A 20 X Y", NOT_BYTES),
@@ -554,12 +595,18 @@ pub const UNREADABLE: Typed = &[
     ("write 0 - ! -1 W", NOT_NUMBER),
     ("write x", NOT_NUMBER),
     ("point x xx", NOT_NUMBER),
+    ("look-up x xx", NOT_NUMBER),
     ("place x x x", NOT_PLACE),
     ("place 5 x x", NOT_NUMBER),
     ("thousandths 1 2 x 4", NOT_NUMBER),
     // And lines that can be read.
     (" \tthousandths\t3\r26  1952\r", "thousandths 2"),
     ("thousandths 000000000000000003 26 1952", "thousandths 2"),
+    ("look-up -0 53 45", "refused 2 1 looked 2"),
+    ("look-up 000000000000000000 53 45", "refused 2 1 looked 2"),
+    ("look-up 999999999999999999 53 45", "refused 2 1 looked 2"),
+    ("\tlook-up\r0  5 3", NOT_BYTES),
+    ("\tlook-up\r0  53\t\t4f ", "refused 2 1 looked 2"),
     ("template b1 03 82 01 6a", "template 106 !"),
     ("template b1038201 6A", "template 106 !"),
     ("write 0 - ! 2", "refused 4 AAAA"),

@@ -104,6 +104,11 @@ pub fn extended(random: &mut Random) -> Option<Vec<u8>> {
 
 pub fn parts(random: &mut Random, set: u16, constants: Constants, count: i64) -> Parts {
     let description = description(random, Format::Full, set, constants);
+    of_description(random, description, count)
+}
+
+/// With any values, and perhaps with extended data.
+pub fn of_description(random: &mut Random, description: Description, count: i64) -> Parts {
     let values = values(random, &description, count);
     Parts {
         description,
@@ -128,13 +133,7 @@ pub fn small_parts(random: &mut Random) -> Parts {
         description[channel] = said(random, Format::Full, channel, few);
     }
     let count = random.between(0, 3);
-    let values = values(random, &description, count);
-    Parts {
-        description,
-        count,
-        values,
-        extended: extended(random),
-    }
+    of_description(random, description, count)
 }
 
 pub fn any_parts(random: &mut Random) -> Parts {
@@ -198,6 +197,34 @@ pub fn damage(random: &mut Random, bytes: &mut [u8], place: usize) {
     let any = random.byte();
     let new = random.pick(&[turned, turned, 0, 1, 2, 0x7F, 0x80, 0xFF, any]);
     *byte = if new == *byte { !new } else { new };
+}
+
+/// A record damaged at up to two bytes, and then as it is, cut short or with bytes behind.
+pub fn any_slice(random: &mut Random) -> Vec<u8> {
+    let parts = match random.one_in(4) {
+        true => any_parts(random),
+        false => small_parts(random),
+    };
+    let mut bytes = bytes(&parts);
+    for _ in 0..random.below(3) {
+        let place = match random.one_in(2) {
+            true => random.pick(&ruled_places(&parts)),
+            false => random.below(bytes.len()),
+        };
+        damage(random, &mut bytes, place);
+    }
+    match random.below(3) {
+        0 => bytes.truncate(random.below(bytes.len())),
+        1 => bytes.extend(few_bytes(random)),
+        _ => (),
+    }
+    bytes
+}
+
+/// Up to seven bytes.
+pub fn few_bytes(random: &mut Random) -> Vec<u8> {
+    let amount = random.below(8);
+    random.bytes(amount)
 }
 
 pub fn template(random: &mut Random) -> Template {

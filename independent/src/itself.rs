@@ -1,8 +1,9 @@
 //! The check of this program by itself, before there is any other: what it writes it reads
 //! back, what it reads it writes again, its readings keep the order of request L11, it has none
 //! without a scaling value (request L3), it names the numbers out of range in stored order
-//! (request L2), and the typed answers are its own.
+//! (request L2), it looks points up by themselves (request L7), and the typed answers are its own.
 
+use crate::apart;
 use crate::asking;
 use crate::compare::Comparison;
 use crate::description::stored;
@@ -48,6 +49,7 @@ pub fn check(seed: u64, cases: usize) -> bool {
         nearest(&mut counts, &mut random);
         calibration(&mut counts, &mut random);
         mending::check(&mut counts, &mut random);
+        apart::check(&mut counts, &mut random);
     }
     for _ in 0..cases.div_ceil(5) {
         let mut parts = inputs::any_parts(&mut random);

@@ -1,6 +1,7 @@
 //! Compares the answers of `list` and `ask` with those of a second, independent program.
 
 mod answers;
+mod apart;
 mod asking;
 mod channels;
 mod compare;
@@ -9,7 +10,11 @@ mod description;
 mod examples;
 mod inputs;
 mod itself;
+mod layout;
 mod listing;
+mod looked_at;
+mod lookup;
+mod lookup_examples;
 mod mending;
 mod naming_examples;
 mod questions;

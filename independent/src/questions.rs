@@ -14,6 +14,10 @@ pub fn point(index: i64, bytes: &[u8]) -> String {
     format!("point {index} {}", digits(bytes))
 }
 
+pub fn look_up(index: i64, bytes: &[u8]) -> String {
+    format!("look-up {index} {}", digits(bytes))
+}
+
 pub fn step(place: usize, bytes: &[u8]) -> String {
     format!("step {place} {}", digits(bytes))
 }

@@ -47,24 +47,40 @@ impl Place {
     }
 }
 
-pub fn judge(bytes: &[u8]) -> Result<Record, Refusal> {
-    let mut cursor = Cursor::new(bytes, 0, 1);
-    fixed(&mut cursor, IDENTIFIER, 2)?;
-    fixed(&mut cursor, VERSION, 3)?;
-    let description = description::read(&mut cursor, Format::Full)?;
+/// What stands before the points: the header, the opening byte and the count.
+pub struct Front {
+    pub description: Description,
+    pub extended: bool,
+    pub count: i64,
+}
+
+/// Refusals 1 to 7, as the bytes come.
+pub fn read_front(cursor: &mut Cursor) -> Result<Front, Refusal> {
+    fixed(cursor, IDENTIFIER, 2)?;
+    fixed(cursor, VERSION, 3)?;
+    let description = description::read(cursor, Format::Full)?;
     cursor.demand(6, |byte| byte == 0)?;
     let opening = cursor.demand(7, |byte| byte & 0x7F == 0)?;
-    let count = cursor.number(3)?;
+    Ok(Front {
+        description,
+        extended: opening != 0,
+        count: cursor.number(3)?,
+    })
+}
+
+pub fn judge(bytes: &[u8]) -> Result<Record, Refusal> {
+    let mut cursor = Cursor::new(bytes, 0, 1);
+    let front = read_front(&mut cursor)?;
     let points = cursor.place();
-    skip_points(&mut cursor, &description, count)?;
-    let extended = match opening {
-        0 => None,
-        _ => Some(skip_extended(&mut cursor)?),
+    skip_points(&mut cursor, &front.description, front.count)?;
+    let extended = match front.extended {
+        false => None,
+        true => Some(skip_extended(&mut cursor)?),
     };
     Ok(Record {
         length: cursor.place(),
-        count,
-        description,
+        count: front.count,
+        description: front.description,
         points,
         extended,
     })
@@ -148,14 +164,18 @@ pub fn point(bytes: &[u8], index: i64) -> Result<[Place; 16], Refusal> {
 /// The point with this index of a record that was judged good.
 pub fn read_point(bytes: &[u8], record: &Record, index: i64) -> Result<[Place; 16], Refusal> {
     let start = record.points + index as usize * point_size(&record.description);
-    let mut cursor = Cursor::new(bytes, start, 1);
+    read_places(&mut Cursor::new(bytes, start, 1), &record.description)
+}
+
+/// The point that comes next: 1 or 8, as its bytes come.
+pub fn read_places(cursor: &mut Cursor, description: &Description) -> Result<[Place; 16], Refusal> {
     let mut places = [Place::Absent; 16];
     for (channel, place) in places.iter_mut().enumerate() {
-        let said = &record.description[channel];
+        let said = &description[channel];
         *place = match (said.included, said.constant) {
             (false, _) => Place::Absent,
             (true, true) => Place::Constant,
-            (true, false) => Place::Number(read_value(&mut cursor, channel)?),
+            (true, false) => Place::Number(read_value(cursor, channel)?),
         };
     }
     Ok(places)

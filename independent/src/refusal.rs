@@ -19,7 +19,7 @@ pub struct Refusal {
 }
 
 impl Refusal {
-    pub fn bare(number: u8) -> Refusal {
+    pub const fn bare(number: u8) -> Refusal {
         let carried = Carried::Nothing;
         Refusal { number, carried }
     }

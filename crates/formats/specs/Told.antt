@@ -13,8 +13,8 @@ use lib.Ieee.Fits.{and-r}
 use borrow.Author.Tests.{le-leb, lt-leb, eq-eqb, ne-eqb, eqb-true, eqb-false}
 use lib.ListN.{length, getD}
 use Rattle.formats.specs.Bytes.{impossible}
-use Rattle.formats.specs.Reader.{Reader, Answer, ok, short, bad, mapped, andThen, run, readAt, bind, map, each, times, literal}
-use Rattle.formats.specs.Compose.{run-bind, at-done, at-short, at-pass, at-fail, at-bind, at-map, at-within, at-bind-ok}
+use Rattle.formats.specs.Reader.{Reader, Answer, done, ok, short, bad, mapped, andThen, run, readAt, bind, map, each, times, literal}
+use Rattle.formats.specs.Compose.{run-bind, at-done, at-short, at-pass, at-fail, at-bind, at-map, at-times, at-within, at-bind-ok}
 use Rattle.formats.specs.declared.Failure.{Failure}
 use Rattle.formats.specs.declared.Failure.the-variants.{Short, Bad}
 use Rattle.formats.specs.declared.Outcome.{Outcome}
@@ -141,6 +141,16 @@ module _ {A : Type 0} (r : Reader A) (s : List ℕ) (step : ℕ → Outcome) (on
   unfolding told times repeated
   times-repeated zero at h = ap told (at-done [] s at)
   times-repeated (suc n) at h = times-by n at (step at) h (one at h) (times-repeated n)
+
+-- one time is the part itself
+pub once-told : {A : Type 0} (r : Reader A) (s : List ℕ) (at : ℕ) → told (readAt (times 1 r) s at) ≡ told (readAt r s at)
+unfolding times told andThen
+once-told {A} r s at = ap told (at-times s at 0 r) ∙ go (readAt r s at)
+  where
+    go : (x : Answer A) → told (andThen x (λ v n. mapped (λ vs. v ∷ vs) (readAt (done []) s n))) ≡ told x
+    go (ok v n) = told-mapped (λ vs. v ∷ vs) (readAt (done []) s n) ∙ ap told (at-done [] s n)
+    go short = refl
+    go (bad k p) = refl
 
 -- certain bytes from a place on, one by one
 unfoldable pub matched : List ℕ → ℕ → List ℕ → ℕ → Outcome

@@ -1,4 +1,5 @@
--- `Places`: a point as sixteen places. `Parts`: what one number and one place are told as. `Answers`: no public function has a second answer.
+-- `Places`: a point as sixteen places. `Parts`: what one number and one place are told as. `PlaceLaws` has a law for proofs. `Answers`: no public function has a second answer.
 pub mod Places
 pub mod Parts
+pub mod PlaceLaws
 pub mod Answers

@@ -15,18 +15,20 @@ const POINT: usize = 5;
 
 const STEP: usize = 6;
 
-const WRITE: usize = 7;
+const LOOK_UP: usize = 7;
 
-const WRITE_TEMPLATE: usize = 8;
+const WRITE: usize = 8;
 
-const THOUSANDTHS: usize = 9;
+const WRITE_TEMPLATE: usize = 9;
 
-const PLACE: usize = 10;
+const THOUSANDTHS: usize = 10;
 
-// The question of a name, or 11 where there is no such question.
+const PLACE: usize = 11;
+
+// The question of a name, or 12 where there is no such question.
 fn question_of(name: &[u8]) -> usize {
     words::which(
-        b"judge whole extended rest template point step write write-template thousandths place",
+        b"judge whole extended rest template point step look-up write write-template thousandths place",
         b' ',
         name,
     )
@@ -38,7 +40,7 @@ pub fn answer(text: &mut [u8; 65536], used: u16, line: &[u8]) -> u16 {
     let question = question_of(words::part(line, span.from, span.to));
     match question {
         JUDGE..=TEMPLATE => of_bytes(text, used, question, 0, line, span.to),
-        POINT..=STEP => of_number_and_bytes(text, used, question, line, span.to),
+        POINT..=LOOK_UP => of_number_and_bytes(text, used, question, line, span.to),
         WRITE => writing_questions::write(text, used, line, span.to),
         WRITE_TEMPLATE => writing_questions::write_template(text, used, line, span.to),
         THOUSANDTHS => reading_questions::raw(text, used, line, span.to),
@@ -103,6 +105,7 @@ fn ask(text: &mut [u8; 65536], used: u16, question: usize, index: usize, bytes: 
         REST => record_questions::rest(text, used, bytes),
         POINT => record_questions::point(text, used, bytes, index),
         STEP => record_questions::step(text, used, bytes, index),
+        LOOK_UP => lookup_questions::look_up(text, used, bytes, index),
         _ => template_questions::read(text, used, bytes),
     }
 }

@@ -1,14 +1,13 @@
 -- What is said of a point of a record, by its layout: points of one width stand at even distances behind the front.
 use mathlib.Core.Path.{_≡_, refl, sym, ap, ap₂, _∙_}
 use mathlib.Core.Bool.{Bool, false}
-use mathlib.Core.List.{List, []}
+use mathlib.Core.List.{List}
 use Prim.Native.Nat.{ℕ, _+_, _-_, _*_, _/_, _≤_, _<_}
 use native.Mathlib.Nat.{mul-comm, mul-le-mul-right, mul-div-cancel}
 use native.Mathlib.Omega.{arith}
 use lib.ListN.{length, replicate}
 use borrow.Author.Tests.{lt-ltb, le-ltb}
-use Rattle.formats.specs.Reader.{ok, run, readAt, each}
-use Rattle.formats.specs.Compose.{at-done}
+use Rattle.formats.specs.Reader.{ok, run, readAt}
 use Rattle.formats.specs.Fixed.{fixed-times}
 use Rattle.formats.specs.Told.{failed}
 use Rattle.formats.specs.declared.Failure.{Failure}
@@ -18,9 +17,10 @@ use Rattle.formats.specs.declared.Outcome.the-variants.{Done, Failed}
 use Rattle.refusals.specs.Table.{refusalOf}
 use Rattle.refusals.specs.declared.Refusal.the-variants.{NoPoint}
 use Rattle.channels.specs.declared.Description.{Description}
-use Rattle.points.specs.Points.{storedFrom, channels, point, width}
+use Rattle.points.specs.Points.{point, width}
 use Rattle.point_places.specs.Places as places
-use Rattle.point_places.specs.Places.{placesOf, nowhere}
+use Rattle.point_places.specs.Places.{nowhere}
+use Rattle.point_places.specs.PlaceLaws.{read-nowhere}
 use Rattle.points.specs.Laws.{fixed-point, nth-point}
 use Rattle.records.specs.Record.{Record, included, stored, fullRecord}
 use Rattle.record_fronts.specs.Front.{front}
@@ -51,8 +51,7 @@ Shown s index included stored start =
 
 -- no point is read as one of no channel
 shown-nowhere : (s : List ℕ) (index : ℕ) → nowhere ≡ placesIn index (run fullRecord s) → Shown s index (replicate 16 false) (replicate 16 false) 0
-unfolding places.placesIn point channels storedFrom each placesOf
-shown-nowhere s index e = ap (places.placesIn (replicate 16 false) (replicate 16 false)) (at-done [] s 0) ∙ e
+shown-nowhere s index e = read-nowhere 2 s 0 ∙ e
 
 module _ (s : List ℕ) (l : Layout) (e : l ≡ layoutAt s 0) where
   abbrev heading : Front

@@ -52,7 +52,7 @@ writes-extension false = writes-as (writes-done none) to from
 
 -- ---- The record
 
-opening-is : (e : Option (List ℕ)) (b : ℕ) → opening .holds b ≡ true → bit 8 (openingByte e) ≡ bit 8 b → openingByte e ≡ b
+pub opening-is : (e : Option (List ℕ)) (b : ℕ) → opening .holds b ≡ true → bit 8 (openingByte e) ≡ bit 8 b → openingByte e ≡ b
 unfolding openingByte
 opening-is e b h q = go (eqb b 0x00) (eqb b 0x80) refl refl e h q
   where
@@ -63,7 +63,7 @@ opening-is e b h q = go (eqb b 0x00) (eqb b 0x80) refl refl e h q
     go false true x y (some l) h q = sym (eqb-true b 0x80 y)
     go false false x y e h q = impossible (cc)
 
-opening-good : (e : Option (List ℕ)) → (openingByte e < 256) × (opening .holds (openingByte e) ≡ true)
+pub opening-good : (e : Option (List ℕ)) → (openingByte e < 256) × (opening .holds (openingByte e) ≡ true)
 unfolding openingByte
 opening-good none = (omega arith, refl)
 opening-good (some l) = (omega arith, refl)

@@ -38,14 +38,14 @@ fn limits(comparison: &mut Comparison) {
     comparison.ask_typed(TYPED, "write-template ! 131072 !", &answer);
 }
 
-/// A short question of any of the eleven sorts.
+/// A short question of any of the twelve sorts.
 fn any_question(random: &mut Random) -> String {
     let parts = inputs::small_parts(random);
     let bytes = inputs::bytes(&parts);
     let template = inputs::template(random);
     let room = random.below(40);
     let index = random.between(0, 3);
-    match random.below(12) {
+    match random.below(13) {
         0 => questions::of_bytes("judge", &bytes),
         1 => questions::of_bytes("whole", &bytes),
         2 => questions::of_bytes("extended", &bytes),
@@ -61,6 +61,7 @@ fn any_question(random: &mut Random) -> String {
             room,
             index * 500
         ),
+        11 => questions::look_up(index, &bytes),
         _ => any_place(random, template),
     }
 }

@@ -129,6 +129,9 @@ fn many_points(comparison: &mut Comparison, random: &mut Random) {
         for index in [0, 1, count / 2, count - 2, count - 1, count, far] {
             comparison.ask(POINTS, questions::point(index, &bytes));
         }
+        for index in [count / 2, count - 1, count] {
+            comparison.ask(POINTS, questions::look_up(index, &bytes));
+        }
         comparison.ask(POINTS, questions::step(0, &bytes));
         let before = inputs::small_record(random);
         let joined = [&before[..], &bytes, &before].concat();
@@ -177,13 +180,26 @@ fn points_of_one_byte(comparison: &mut Comparison) {
     let stepped = "record 100018 100000 plain next 100018";
     typed(&format!("step 0 {bytes}"), stepped);
     for (index, state) in [(0, 0), (50_000, 0), (65535, 0), (65536, 1), (99_999, 1)] {
-        let answer = format!("point - - . . . . . . . . {state} . . . . .");
-        typed(&format!("point {index} {bytes}"), &answer);
+        let places = format!("- - . . . . . . . . {state} . . . . .");
+        typed(
+            &format!("point {index} {bytes}"),
+            &format!("point {places}"),
+        );
+        let looked_up = format!("point 19 {places}");
+        typed(&format!("look-up {index} {bytes}"), &looked_up);
     }
     typed(&format!("point 100000 {bytes}"), "refused 10");
+    let beyond = "refused 10 looked 18";
+    typed(&format!("look-up 100000 {bytes}"), beyond);
+    let short = "refused 1 looked 18";
+    typed(&format!("look-up 99999 {cut}"), short);
     let wrong = format!("{cut}02");
     typed(&format!("judge {wrong}"), "refused 8 100017");
     typed(&format!("point 0 {wrong}"), "refused 8 100017");
+    let unseen = "point 19 - - . . . . . . . . 0 . . . . .";
+    typed(&format!("look-up 0 {wrong}"), unseen);
+    let seen = "refused 8 100017 looked 19";
+    typed(&format!("look-up 99999 {wrong}"), seen);
 }
 
 /// Filled by points, and by points and the longest extended data, as far as a line goes.

@@ -7,6 +7,7 @@ mod joined;
 mod lines;
 mod long_records;
 mod long_writes;
+mod lookups;
 mod naming;
 mod order;
 mod readings;
@@ -21,7 +22,7 @@ use crate::random::Random;
 
 pub fn everything(comparison: &mut Comparison, seed: u64) {
     examples::ask_all(comparison);
-    let sorts: [fn(&mut Comparison, &mut Random); 13] = [
+    let sorts: [fn(&mut Comparison, &mut Random); 14] = [
         records::ask_all,
         damage::ask_all,
         joined::ask_all,
@@ -35,6 +36,7 @@ pub fn everything(comparison: &mut Comparison, seed: u64) {
         order::ask_all,
         calibration::ask_all,
         naming::ask_all,
+        lookups::ask_all,
     ];
     for (number, ask_all) in sorts.into_iter().enumerate() {
         // Each sort has a seed of its own, so that a change in one leaves the others.

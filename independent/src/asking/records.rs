@@ -74,13 +74,7 @@ fn with_one(random: &mut Random, channel: usize, said: Said) -> Parts {
     let set = X_AND_Y | bit(channel);
     let mut description = inputs::description(random, Format::Full, set, Constants::None);
     description[channel] = said;
-    let values = inputs::values(random, &description, 1);
-    Parts {
-        description,
-        count: 1,
-        values,
-        extended: inputs::extended(random),
-    }
+    inputs::of_description(random, description, 1)
 }
 
 fn ask_briefly(comparison: &mut Comparison, parts: &Parts) {
