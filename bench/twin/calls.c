@@ -46,30 +46,6 @@ struct seat twin_point(const uint8_t *s, size_t n, size_t index, size_t channel)
     return (struct seat){at.kind, at.number};
 }
 
-struct looked twin_look_up(const uint8_t *s, size_t n, size_t index)
-{
-    struct channels channels;
-    size_t looked;
-    struct end e = look_up(s, n, index, &channels, &looked);
-
-    return (struct looked){e.number, looked};
-}
-
-// A place as one number: its own, or one that no place has.
-int32_t twin_look_up_point(const uint8_t *s, size_t n, size_t index, size_t channel)
-{
-    struct place places[CHANNELS];
-    struct channels channels;
-    size_t looked;
-    struct end e = look_up(s, n, index, &channels, &looked);
-
-    if (e.number)
-        return 100000;
-    point_at(s + e.place, &channels, places);
-    struct place at = places[channel % CHANNELS];
-    return at.kind == NUMBER ? at.number : at.kind == CONSTANT ? 200000 : 100000;
-}
-
 static struct piece piece_of(struct part part)
 {
     return (struct piece){part.length, part.length ? *part.bytes : 0};

@@ -91,8 +91,9 @@ INLINE struct end pass_extension(const uint8_t *s, size_t n, size_t at)
     return n - at < size ? is_short() : done(at + size);
 }
 
-// All that stands before the points, described in `d` or, where that is NULL, only measured.
-INLINE struct end lay_front(const uint8_t *s, size_t n, struct description *d, struct layout *l)
+// The record that some bytes begin with, described in `d` or, where that is NULL, only measured.
+// Where the number is not 0 nothing else is to be looked at.
+INLINE struct end lay(const uint8_t *s, size_t n, struct description *d, struct layout *l)
 {
     if (n < sizeof marks || !are_marks(s))
         return refuse_marks(s, n);
@@ -100,17 +101,9 @@ INLINE struct end lay_front(const uint8_t *s, size_t n, struct description *d, s
     if (e.number)
         return e;
     e = read_opening(s, n, e.place, l);
-    l->points = e.place;
-    return e;
-}
-
-// The record that some bytes begin with. Where the number is not 0 nothing else is to be looked at.
-INLINE struct end lay(const uint8_t *s, size_t n, struct description *d, struct layout *l)
-{
-    struct end e = lay_front(s, n, d, l);
-
     if (e.number)
         return e;
+    l->points = e.place;
     e = pass_points(s, n, e.place, l);
     if (e.number)
         return e;
@@ -194,39 +187,6 @@ LIBRARY struct end point(const uint8_t *s, size_t n, size_t index, struct place 
     else
         point_at(s + l.points + index * l.channels.width, &l.channels, places);
     return e;
-}
-
-// A point by itself, of which `there` bytes are there: how many of them are looked at is added. Answers where it begins.
-INLINE struct end look_at(const uint8_t *s, size_t start, size_t there, const struct channels *channels, size_t *looked)
-{
-    size_t offset = 2 * numbers_before_switch(channels->stored);
-
-    if (channels->stored & BIT(S) && offset < there && s[start + offset] > 1) {
-        *looked += offset + 1;
-        return refused(8, start + offset);
-    }
-    if (there < channels->width) {
-        *looked += there;
-        return is_short();
-    }
-    *looked += channels->width;
-    return done(start);
-}
-
-// One point by its front and itself alone, and how many bytes were looked at.
-LIBRARY struct end look_up(const uint8_t *s, size_t n, size_t index, struct channels *channels, size_t *looked)
-{
-    struct layout l;
-    struct end e = lay_front(s, n, nullptr, &l);
-
-    *looked = !e.number ? e.place : e.number == 1 ? n : e.place + 1;
-    if (e.number)
-        return e;
-    if (l.count <= index)
-        return refused(10, 0);
-    *channels = l.channels;
-    size_t start = l.points + index * l.channels.width;
-    return look_at(s, start, start < n ? n - start : 0, &l.channels, looked);
 }
 
 // The numbers of a point in their order: what is added to each before it is stored, and the bits that it has not then.

@@ -136,6 +136,13 @@ module _ {A B : Type 0} (r : Reader A) (k : A → Reader B) (s : List ℕ) (at :
   unfolding andThen
   at-bind-ok e = rw e at (at-bind k r s at)
 
+-- what the first part was read as, where both were
+pub then-ok : {A B : Type 0} (x : Answer A) (k : A → ℕ → Answer B) {v : B} {n : ℕ} → andThen x k ≡ ok v n → (u : A) × (m : ℕ) × (x ≡ ok u m) × (k u m ≡ ok v n)
+unfolding andThen
+then-ok (ok u m) k e = (u, m, refl, e)
+then-ok short k e = impossible (cc)
+then-ok (bad j p) k e = impossible (cc)
+
 -- a reader that starts in a string ends in it, no earlier
 module _ {A : Type 0} (r : Reader A) (s : List ℕ) (at : ℕ) where
   within-by : {v : A} {n : ℕ} (x : Answer A) → run r (drop at s) ≡ x → after at x ≡ ok v n → at ≤ length s → (at ≤ n) × (n ≤ length s)

@@ -103,23 +103,21 @@ module _ (s : List ℕ) (bytes : Bytes s) where
   sixteen : (h : Heading) {n : ℕ} → readAt front s 0 ≡ ok h n → length (stored (h .description)) ≡ 16
   sixteen h e = length-map (h .description .channels) isStored ∙ written-read writes-front s bytes (sym (at-start front s) ∙ e) .0 .0 .sixteen
 
-  at-most : (index : ℕ) → lookUp s index .looked ≤ 222
-  unfolding lookUp behindFront pointAt
-  at-most index = go (readAt front s 0) refl
-    where
-      by-count : (t : Bool) (n : ℕ) (x : Found) → n ≤ 191 → x .looked ≤ 222 → (cond t x (refused NoPoint n)) .looked ≤ 222
-      by-count true n x h g = g
-      by-count false n x h g = omega arith
-
-      go : (x : Answer Heading) → readAt front s 0 ≡ x → behindFront s index (length (seen front s 0)) x .looked ≤ 222
-      go (ok h n) e =
-          by-count (ltb index (h .count)) (length (seen front s 0)) _ front-most-seen
-          (omega (arith, front-most-seen, point-most-seen (stored (h .description)) (sixteen h e) (startOf (stored (h .description)) n index)))
-      go short e = omega (arith, front-most-seen)
-      go (bad k p) e = omega (arith, front-most-seen)
-
 pub counts-at-most : CountsAtMost
-counts-at-most s bytes index = at-most s bytes index
+unfolding lookUp behindFront pointAt
+counts-at-most s bytes index = go (readAt front s 0) refl
+  where
+    by-count : (t : Bool) (n : ℕ) (x : Found) → n ≤ 191 → x .looked ≤ 222 → (cond t x (refused NoPoint n)) .looked ≤ 222
+    by-count true n x h g = g
+    by-count false n x h g = omega arith
+
+    go : (x : Answer Heading) → readAt front s 0 ≡ x → behindFront s index (length (seen front s 0)) x .looked ≤ 222
+    go (ok h n) e =
+        let flags = stored (h .description) in
+        by-count (ltb index (h .count)) (length (seen front s 0)) _ (front-most-seen s bytes)
+        (omega (arith, front-most-seen s bytes, point-most-seen s bytes flags (sixteen s bytes h e) (startOf flags n index)))
+    go short e = omega (arith, front-most-seen s bytes)
+    go (bad k p) e = omega (arith, front-most-seen s bytes)
 
 -- ---- So many
 

@@ -8,8 +8,8 @@ use lib.Dec.{ltb}
 use lib.ListN.{length}
 use borrow.Author.Tests.{ltb-true}
 use Rattle.formats.specs.Bytes.{impossible}
-use Rattle.formats.specs.Reader.{Answer, ok, short, bad, andThen, run, readAt, times}
-use Rattle.formats.specs.Compose.{at-start, at-bind, at-done, at-within}
+use Rattle.formats.specs.Reader.{Answer, ok, short, bad, run, readAt, times}
+use Rattle.formats.specs.Compose.{at-start, at-bind, at-done, at-within, then-ok}
 use Rattle.formats.specs.Sight.{seen}
 use Rattle.points.specs.Points.{point}
 use Rattle.points.specs.Laws.{nth-point}
@@ -22,13 +22,6 @@ use Rattle.record_reading.specs.declared.Verdict.the-variants as verdict
 use Rattle.record_points.specs.Pointing.{pointedAt, placesIn}
 use Rattle.lookups.specs.Lookup.{pointRead, pointAt, behindFront, lookUp}
 use Rattle.lookups.specs.Joining.{joined, joinedPlaces, Joins, SamePoint}
-
--- what a first part was read as, where both were
-then-ok : {A B : Type 0} (x : Answer A) (k : A → ℕ → Answer B) {v : B} {n : ℕ} → andThen x k ≡ ok v n → (u : A) × (m : ℕ) × (x ≡ ok u m) × (k u m ≡ ok v n)
-unfolding andThen
-then-ok (ok u m) k e = (u, m, refl, e)
-then-ok short k e = impossible (cc)
-then-ok (bad j p) k e = impossible (cc)
 
 module _ (s : List ℕ) {r : Record} {end : ℕ} (e : run fullRecord s ≡ ok r end) where
   -- the front and the body of a record
@@ -54,21 +47,21 @@ module _ (s : List ℕ) {r : Record} {end : ℕ} (e : run fullRecord s ≡ ok r 
       let p : record { description = h .description; points = x .0; extended = y .0 } ≡ r = cc in
       (x .1, x .2 ∙ ap (λ v. ok v (x .1)) (ap (λ v. v .points) p), ap (λ v. v .description) p)
 
+  counted : length (r .points) ≡ h .count
+  counted = times-length (point 2 flags) s (h .count) n (its-points .1)
+
   -- the one that is asked for, by the count
-  abbrev Agrees : ℕ → Answer Heading → Type 0
-  Agrees index x =
+  abbrev Finds : ℕ → Answer Heading → Type 0
+  Finds index x =
       (behindFront s index (length (seen front s 0)) x .pointed ≡ pointedAt index (ok r end)) × (behindFront s index (length (seen front s 0)) x .places ≡ placesIn index (ok r end))
 
-  by-count : (index : ℕ) (t : Bool) → ltb index (h .count) ≡ t → Agrees index (ok h n)
+  by-count : (index : ℕ) (t : Bool) → ltb index (h .count) ≡ t → Finds index (ok h n)
   unfolding behindFront pointAt pointRead pointedAt placesIn places.placesIn
   by-count index true q =
-      let c : length (r .points) ≡ h .count = times-length (point 2 flags) s (h .count) n (its-points .1) in
       let w = at-within front s 0 (parts .2) (omega arith) .1 in
       let p = nth-point 2 flags s (h .count) n (r .points) (its-points .0) w (its-points .1) index (ltb-true index (h .count) q) in
-      rw (c, q, p, its-points .2) (refl, refl)
-  by-count index false q =
-      let c : length (r .points) ≡ h .count = times-length (point 2 flags) s (h .count) n (its-points .1) in
-      rw (c, q) (refl, refl)
+      rw (counted, q, p, its-points .2) (refl, refl)
+  by-count index false q = rw (counted, q) (refl, refl)
 
   found : (index : ℕ) → (lookUp s index .pointed ≡ pointedAt index (run fullRecord s)) × (lookUp s index .places ≡ placesIn index (run fullRecord s))
   unfolding lookUp
