@@ -3,6 +3,7 @@ use mathlib.Core.Path.{_≡_, refl, sym, ap, ap₂, _∙_}
 use mathlib.Core.Bool.{Bool, false}
 use mathlib.Core.List.{List}
 use Prim.Native.Nat.{ℕ, _+_, _*_, _≤_, _<_}
+use native.Mathlib.Nat.{mul-le-mul-left}
 use native.Mathlib.Omega.{arith}
 use lib.ListN.{length, replicate}
 use borrow.Author.Tests.{le-ltb}
@@ -26,6 +27,11 @@ use Rattle.lookups.specs.Lookup.{refused, pointRead, startOf, pointAt, b
 use Rattle.lookups.specs.LookupLaws.{front-refused, front-looked, not-counted, counted-there, failed-seen}
 use Rattle.lookups.specs.CountingLaws.{counts-at-most}
 use Rattle.lookups.specs.declared.Lookup.{Lookup}
+
+-- the place of a point fits: its index is below a count of 32 bits, its width is at most 32, and its front lies in the bytes
+pub start-fits : {index count width points size : ℕ} → index < count → count < 4294967296 → width ≤ 32 → points ≤ size → size < 9223372036854775808
+    → points + index * width < 18446744073709551616
+start-fits {index} below small narrow inside room = omega (arith, mul-le-mul-left index narrow)
 
 module _ (s : List ℕ) where
   -- the points begin where the bytes end that were looked at

@@ -1,7 +1,6 @@
 -- `lookups::look_up` meets its contract: the front, its count and the point decide in turn, and each tells the bytes that were looked at.
 use mathlib.Core.Path.{_≡_, refl, sym, ap, _∙_}
-use Prim.Native.Nat.{_*_, _≤_}
-use native.Mathlib.Nat.{mul-le-mul-left}
+use Prim.Native.Nat.{_+_, _*_, _<_}
 use native.Mathlib.Omega.{arith}
 use borrow.Author.Needs.{needs}
 use Rattle.formats.specs.Bytes.{Bytes}
@@ -12,7 +11,7 @@ use Rattle.channels.specs.Channel.{widthOf}
 use Rattle.record_fronts.specs.Front as meant
 use Rattle.record_fronts.specs.Fronted.{frontIn}
 use Rattle.lookups.specs.LookupLaws.{failed-seen}
-use Rattle.lookups.proofs.Looking.{promised, answers-failed, points-within, answers-none, answers-point}
+use Rattle.lookups.proofs.Looking.{start-fits, promised, answers-failed, points-within, answers-none, answers-point}
 use Rattle.lookups.proofs.look_up.Statement.{statement}
 use Rattle.lookups.proofs.look_up.Tie as tie
 
@@ -71,21 +70,25 @@ returns-2 c = promised _ _ (bytes (headed (c .before))) (answers-none _ _ (ended
 width-requires : tie.Need-width-requires
 width-requires c κs = search needs
 
--- the point's place fits, since its index is below a count of 32 bits and its width is at most 32
+-- the point's place
 module _ (c : tie.After-width) where
   abbrev known : tie.After-struct-known
   known = c .before .before .before
 
-  within : start (headed known) .args .index * c .width .result ≤ start (headed known) .args .index * 32
-  within = mul-le-mul-left (start (headed known) .args .index) (c .width .ensures .1)
+  fits : headed known .front-at .result .front .points + start (headed known) .args .index * c .width .result < 18446744073709551616
+  fits =
+      start-fits
+      (c .before .before .if1 .left)
+      (omega (arith, headed known .front-at .ok))
+      (c .width .ensures .1)
+      (points-within _ (ended known) _ (front (headed known)))
+      (omega (arith, start (headed known) .good .0 .1))
 
 mul-start : tie.Need-mul-start
-mul-start c = record { fits = omega (arith, within c, c .before .before .if1 .left, headed (known c) .front-at .ok) }
+mul-start c = record { fits = omega (arith, fits c) }
 
 add-start : tie.Need-add-start
-add-start c =
-    let k = known (c .before) in
-    record { fits = omega (arith, within (c .before), points-within _ (ended k) _ (front (headed k)), start (headed k) .good .0 .0) }
+add-start c = record { fits = omega (arith, fits (c .before)) }
 
 look-at-requires : tie.Need-look-at-requires
 look-at-requires c κs = let k = known (c .before) in points-within _ (ended k) _ (front (headed k))

@@ -1,15 +1,14 @@
 -- `lookups::point` meets its contract: the point is read at its own place, and where there is none the flags are those of no channel.
 use mathlib.Core.Path.{_≡_, ap, _∙_}
 use mathlib.Core.Logic.{⊎-elim}
-use Prim.Native.Nat.{_*_, _≤_}
-use native.Mathlib.Nat.{mul-le-mul-left}
+use Prim.Native.Nat.{_+_, _*_, _<_}
 use native.Mathlib.Omega.{arith}
 use borrow.Author.Needs.{needs}
 use Rattle.formats.specs.Reader.{readAt}
 use Rattle.channels.specs.Channel.{widthOf}
 use Rattle.record_fronts.specs.Front as meant
 use Rattle.record_fronts.specs.Fronted.{frontIn}
-use Rattle.lookups.proofs.Looking.{Shown, shown-there, shown-none, counted-within}
+use Rattle.lookups.proofs.Looking.{start-fits, Shown, shown-there, shown-none, counted-within}
 use Rattle.lookups.proofs.point.Statement.{statement}
 use Rattle.lookups.proofs.point.Tie as tie
 
@@ -26,7 +25,7 @@ width-requires c κs = search needs
 front : (c : tie.After-front-at) → c .front-at .result .front ≡ frontIn (readAt meant.front (c .before .before .args .bytes .now) 0)
 front c = ap (λ h. h .front) (c .front-at .ensures)
 
--- the point's place fits, since its index is below a count of 32 bits and its width is at most 32
+-- the point's place
 module _ (c : tie.After-width) where
   abbrev headed : tie.After-front-at
   headed = c .before .before .before .before .before .before
@@ -34,16 +33,16 @@ module _ (c : tie.After-width) where
   abbrev start : tie.Start
   start = headed .before .before
 
-  within : start .args .index * c .width .result ≤ start .args .index * 32
-  within = mul-le-mul-left (start .args .index) (c .width .ensures .1)
+  fits : headed .front-at .result .front .points + start .args .index * c .width .result < 18446744073709551616
+  fits =
+      let h = c .before .before .before .if1 .taken in
+      start-fits h (omega (arith, headed .front-at .ok)) (c .width .ensures .1) (counted-within _ _ _ (front headed) h) (omega (arith, start .good .0 .1))
 
 mul-start : tie.Need-mul-start
-mul-start c = record { fits = omega (arith, within c, c .before .before .before .if1 .taken, headed c .front-at .ok) }
+mul-start c = record { fits = omega (arith, fits c) }
 
 add-start : tie.Need-add-start
-add-start c =
-    let w = c .before in
-    record { fits = omega (arith, within w, counted-within _ _ _ (front (headed w)) (w .before .before .before .if1 .taken), start w .good .0 .0) }
+add-start c = record { fits = omega (arith, fits (c .before)) }
 
 places-requires : tie.Need-places-requires
 places-requires c κs = search needs
