@@ -1,7 +1,7 @@
 // Calls a function of the library or its twin on a prepared input, between two marks that bench/count.c looks for.
 //   driver compare            both sides answer alike on many inputs, or the first difference is told
 //   driver file SIZE          a file for the listing program, on standard output
-//   driver MARK SIDE ROW SIZE one call (or a loop of calls); MARK is `mark` or `plain`, SIDE is `rattle`, `twin` or `empty`
+//   driver MARK SIDE ROW SIZE one call (or a loop of calls); MARK is `mark` or `plain`, for the emulator, SIDE is `rattle`, `twin` or `empty`
 // The functions of the side `empty` do nothing: what they take is the driver's own cost, which is taken off.
 #include "twin/calls.h"
 
@@ -19,6 +19,7 @@ struct side {
     typeof(costs_point) *point;
     typeof(costs_look_up) *look_up;
     typeof(costs_look_up_point) *look_up_point;
+    typeof(costs_read_columns) *read_columns;
     typeof(costs_extended) *extended;
     typeof(costs_rest) *rest;
     typeof(costs_write) *write;
@@ -31,8 +32,8 @@ struct side {
 
 #define SIDE(s)                                                                                                        \
     {                                                                                                                  \
-        s##_judge, s##_describe, s##_point, s##_look_up, s##_look_up_point, s##_extended, s##_rest, s##_write,         \
-            s##_step, s##_read_template, s##_write_template, s##_thousandths, s##_place                                \
+        s##_judge, s##_describe, s##_point, s##_look_up, s##_look_up_point, s##_read_columns, s##_extended, s##_rest,  \
+            s##_write, s##_step, s##_read_template, s##_write_template, s##_thousandths, s##_place                     \
     }
 
 static const struct side rattle = SIDE(costs), twin = SIDE(twin);
@@ -46,7 +47,7 @@ __attribute__((naked)) static void nothing(void)
 static const struct side empty = {
     (void *)nothing, (void *)nothing, (void *)nothing, (void *)nothing, (void *)nothing, (void *)nothing,
     (void *)nothing, (void *)nothing, (void *)nothing, (void *)nothing, (void *)nothing, (void *)nothing,
-    (void *)nothing,
+    (void *)nothing, (void *)nothing,
 };
 
 // ---- Inputs
@@ -126,11 +127,24 @@ static size_t put_record(uint8_t *at, uint32_t inclusion, uint32_t flags, bool s
 
 static bool marking;
 
-// The counter looks for the one int3 that is here.
+// A function that only returns, at an address that the emulator's log is looked through for.
+static void (*beacon)(void);
+
+static void set_beacon(void)
+{
+    uint8_t *page = mmap((void *)0x10000000, 4096, 7, 0x32, -1, 0); // read, write and run; private, anonymous, there and nowhere else
+
+    *page = 0xC3;
+    beacon = (void (*)(void))page;
+}
+
+// The counter looks for the one int3 that is here, or for the beacon.
 __attribute__((noinline)) static void mark(void)
 {
     if (marking)
         __asm__ volatile("int3" ::: "memory");
+    else
+        beacon();
 }
 
 // The answer is in memory afterwards, and is not looked at.
@@ -233,6 +247,15 @@ static bool count_row(const struct side *side, const char *row, size_t size)
     } else if (is(row, "look-up-point-full")) {
         n = put_record(bytes, ALL, EVERY, true, size, -1);
         BETWEEN(side->look_up_point(bytes, n, size - 1, Y));
+    } else if (is(row, "columns")) { // `size` points of X and Y
+        n = put_record(bytes, XY, BARE, false, size, -1);
+        BETWEEN(side->read_columns(bytes, n, values, 2 * size));
+    } else if (is(row, "columns-switch")) { // `size` points of X, Y and S
+        n = put_record(bytes, XY | SWITCH, BARE, true, size, -1);
+        BETWEEN(side->read_columns(bytes, n, values, 3 * size));
+    } else if (is(row, "columns-full")) { // `size` points of sixteen channels
+        n = put_record(bytes, ALL, EVERY, true, size, -1);
+        BETWEEN(side->read_columns(bytes, n, values, 16 * size));
     } else if (is(row, "extended")) { // `size` bytes of extended data
         n = put_record(bytes, XY, BARE, false, 100, size);
         BETWEEN(side->extended(bytes, n));
@@ -319,14 +342,33 @@ static bool same_said(const struct said *a, const struct said *b)
         }                                                                                                              \
     } while (0)
 
+// The columns of a record that has `right` numbers, in a buffer of that amount and of its neighbours. Each holds one number more, which stays.
+static bool same_columns(const uint8_t *s, size_t n, size_t right)
+{
+    enum { MOST = 64, UNTOUCHED = 99999 };
+    static int32_t x[MOST], y[MOST];
+
+    for (size_t amount = right ? right - 1 : 0; amount <= right + 1 && amount < MOST; amount++) {
+        for (size_t i = 0; i < MOST; i++)
+            x[i] = y[i] = UNTOUCHED;
+        uint64_t a = costs_read_columns(s, n, x, amount), b = twin_read_columns(s, n, y, amount);
+        SAME(a == b && memcmp(x, y, sizeof x) == 0, "columns");
+    }
+    return true;
+}
+
 // Every question that some bytes can be asked.
 static bool same_reading(const uint8_t *s, size_t n)
 {
+    size_t count = 0, stored = 0;
+
     for (size_t c = 0; c < CHANNELS; c++) {
         struct judgement a = costs_judge(s, n, c), b = twin_judge(s, n, c);
         SAME(a.number == b.number && a.place == b.place && a.count == b.count && a.extended == b.extended &&
                  same_said(&a.said, &b.said),
              "judge");
+        count = a.number ? 0 : a.count;
+        stored += a.said.included && !a.said.constant;
         struct templated t = costs_read_template(s, n, c), u = twin_read_template(s, n, c);
         SAME(t.number == u.number && t.place == u.place && t.described == u.described && t.limited == u.limited &&
                  t.maximum == u.maximum && same_said(&t.said, &u.said),
@@ -341,6 +383,8 @@ static bool same_reading(const uint8_t *s, size_t n)
             SAME(costs_look_up_point(s, n, index, c) == twin_look_up_point(s, n, index, c), "look up, its places");
         }
     }
+    if (!same_columns(s, n, count * stored))
+        return false;
     for (size_t index = 0; index < 4; index++) {
         struct looked a = costs_look_up(s, n, index), b = twin_look_up(s, n, index);
         SAME(a.number == b.number && a.looked == b.looked, "look up");
@@ -503,6 +547,8 @@ int main(int amount, char **words)
         return 2;
     }
     marking = is(words[1], "mark");
+    if (!marking)
+        set_beacon();
     const struct side *side = is(words[2], "rattle") ? &rattle : is(words[2], "twin") ? &twin : &empty;
     if (!count_row(side, words[3], strtol(words[4], nullptr, 10))) {
         tell("driver: no such row\n");

@@ -78,6 +78,7 @@ struct told_reading {
     struct seat side##_point(const uint8_t *s, size_t n, size_t index, size_t channel);                                \
     struct looked side##_look_up(const uint8_t *s, size_t n, size_t index);                                            \
     int32_t side##_look_up_point(const uint8_t *s, size_t n, size_t index, size_t channel);                            \
+    uint64_t side##_read_columns(const uint8_t *s, size_t n, int32_t *values, size_t amount);                           \
     struct piece side##_extended(const uint8_t *s, size_t n);                                                          \
     struct piece side##_rest(const uint8_t *s, size_t n);                                                              \
     struct finished side##_write(const uint8_t *header, size_t size, size_t count, const int32_t *values,              \

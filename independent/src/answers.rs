@@ -1,15 +1,19 @@
 //! The answer that `ask` should give to a line.
 
+use crate::columns;
 use crate::description::words as channel_words;
 use crate::lookup::{self, LookedUp};
 use crate::record::{self, Place, Record, Step};
 use crate::refusal::Refusal;
 use crate::template::{self, Template};
 use crate::thousandths::{of_place, thousandths, Reading};
+use crate::values::{amount, Order};
 use crate::words::{self, Read, Words};
 use crate::writing::{self, Parts};
 
 pub const LONGEST_LINE: usize = 262_144;
+/// What each lent number is before a question: one that no point holds.
+const UNTOUCHED: i64 = 99999;
 
 /// The answers to a whole input: one for each line, the last perhaps without a line feed.
 pub fn all(input: &[u8]) -> Vec<String> {
@@ -41,7 +45,10 @@ fn read(line: &[u8]) -> Read<String> {
         b"rest" => Ok(format!("bytes {}", hex(record::rest(&words.bytes()?)))),
         b"point" => point(&mut words),
         b"look-up" => look_up(&mut words),
-        b"write" => write(&mut words),
+        b"columns" => Ok(columns(&words.bytes()?)),
+        b"columns-in" => columns_in(&mut words),
+        b"write" => write(&mut words, Order::Points),
+        b"write-columns" => write(&mut words, Order::Columns),
         b"step" => step(&mut words),
         b"template" => Ok(template(&words.bytes()?)),
         b"write-template" => write_template(&mut words),
@@ -66,6 +73,15 @@ pub fn digits(bytes: &[u8]) -> String {
         .iter()
         .flat_map(|byte| [digit(byte >> 4), digit(byte & 15)])
         .collect()
+}
+
+/// VALUES: numbers with commas, `-` for none.
+pub fn values(values: &[i64]) -> String {
+    if values.is_empty() {
+        return "-".to_string();
+    }
+    let texts: Vec<String> = values.iter().map(i64::to_string).collect();
+    texts.join(",")
 }
 
 fn verdict(judged: Result<Record, Refusal>) -> String {
@@ -105,7 +121,27 @@ fn sixteen(places: [Place; 16]) -> String {
     places.map(|place| format!(" {}", place.text())).concat()
 }
 
-fn write(words: &mut Words) -> Read<String> {
+/// As many numbers are lent as the record has; for bytes that are refused none are shown.
+fn columns(bytes: &[u8]) -> String {
+    let wanted = |record: Record| amount(&record.description, record.count) as usize;
+    let mut lent = vec![UNTOUCHED; record::whole(bytes).map_or(0, wanted)];
+    match columns::read(bytes, &mut lent) {
+        Ok(()) => format!("columns {}", values(&lent)),
+        Err(refusal) => refusal.text(),
+    }
+}
+
+/// All the lent numbers are shown, also behind a refusal.
+fn columns_in(words: &mut Words) -> Read<String> {
+    let mut lent = vec![UNTOUCHED; words.number(words::AMOUNT)? as usize];
+    let said = match columns::read(&words.bytes()?, &mut lent) {
+        Ok(()) => "columns".to_string(),
+        Err(refusal) => refusal.text(),
+    };
+    Ok(format!("{said} {}", values(&lent)))
+}
+
+fn write(words: &mut Words, order: Order) -> Read<String> {
     let count = words.number(words::NOT_NEGATIVE)?;
     let values = words::values(words.next()?).ok_or(words::NOT_NUMBER)?;
     let extended = words::wanted(words.next()?, words::hex).ok_or(words::NOT_BYTES)?;
@@ -117,7 +153,7 @@ fn write(words: &mut Words) -> Read<String> {
         values,
         extended,
     };
-    Ok(written(writing::write(&parts, room), room))
+    Ok(written(writing::write_from(order, &parts, room), room))
 }
 
 /// Every byte of the room was AA before, and those not written are so still.

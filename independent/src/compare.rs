@@ -38,6 +38,13 @@ pub struct Answered {
     pub theirs: Option<Vec<u8>>,
 }
 
+impl Answered {
+    /// The answer as a text, if it is one.
+    pub fn text(&self) -> Option<&str> {
+        std::str::from_utf8(self.theirs.as_deref()?).ok()
+    }
+}
+
 /// The kind that a claim is counted as, and what it says.
 pub type Claim = (&'static str, &'static str);
 

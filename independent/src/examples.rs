@@ -1,5 +1,6 @@
 //! Examples with answers typed from the papers, never worked out here.
 
+use crate::columns_examples::{self, COLUMNS_EXAMPLES};
 use crate::compare::Comparison;
 use crate::lookup_examples::{self, LOOKUP_EXAMPLES};
 use crate::naming_examples::NAMING_EXAMPLES;
@@ -11,6 +12,7 @@ const ORDER: &str = "examples of request L11";
 const CALIBRATION: &str = "examples of request L3";
 const NAMING: &str = "examples of request L2";
 pub const LOOKUP: &str = "examples of request L7";
+pub const COLUMNS: &str = "examples of request L9";
 
 /// M of document 01: a record with no points.
 const M: &[u8] = &[
@@ -32,12 +34,14 @@ pub fn ask_all(comparison: &mut Comparison) {
         (CALIBRATION, CALIBRATION_EXAMPLES),
         (NAMING, NAMING_EXAMPLES),
         (LOOKUP, LOOKUP_EXAMPLES),
+        (COLUMNS, COLUMNS_EXAMPLES),
     ] {
         for (line, answer) in examples {
             comparison.ask_typed(kind, line, answer);
         }
     }
     lookup_examples::greatest(comparison);
+    columns_examples::greatest(comparison);
     whole_annex_record(comparison);
     listings(comparison);
 }
@@ -149,8 +153,28 @@ const ASK_EXAMPLES: Typed = &[
         "refused 10 looked 17",
     ),
     (
+        "look-up 1 53444900 20313000 C020 00 00 00 00 00 000002 8001 8002 01 8003 8004 02",
+        "refused 8 27 looked 23",
+    ),
+    (
+        "columns 53444900 20313000 C000 00 00 00 00 000002 7FFF 8000 8001 8005",
+        "columns -1,1,0,5",
+    ),
+    (
+        "columns-in 3 53444900 20313000 C000 00 00 00 00 000002 7FFF 8000 8001 8005",
+        "refused 13 99999,99999,99999",
+    ),
+    (
         "write 1 -1,0 ! 23 X Y",
         "written 21 5344490020313000C000000000000000017FFF8000AAAA",
+    ),
+    (
+        "write-columns 2 -1,1,0,5 ! 26 X Y",
+        "written 25 5344490020313000C000000000000000027FFF800080018005AA",
+    ),
+    (
+        "write-columns 2 0,32768,40000,0 ! 2 X Y",
+        "refused 12 value 2 Y AAAA",
     ),
     (
         "step 17 53444900 20313000 C000 00 00 00 00 000000 53",
@@ -405,12 +429,12 @@ fn listings(comparison: &mut Comparison) {
     comparison.list_typed(SCOPE, &empty, "record 0 17 16777215\nend 17\n");
 }
 
-const NO_QUESTION: &str = "cannot read: no such question";
-const MISSING: &str = "cannot read: a word is missing";
-const NOT_NUMBER: &str = "cannot read: not a number";
-const NOT_BYTES: &str = "cannot read: not bytes";
+pub const NO_QUESTION: &str = "cannot read: no such question";
+pub const MISSING: &str = "cannot read: a word is missing";
+pub const NOT_NUMBER: &str = "cannot read: not a number";
+pub const NOT_BYTES: &str = "cannot read: not bytes";
 const NOT_PLACE: &str = "cannot read: not a place";
-const NOT_CHANNEL: &str = "cannot read: not a channel";
+pub const NOT_CHANNEL: &str = "cannot read: not a channel";
 const TOO_MANY: &str = "cannot read: a word too many";
 
 /// Each row of the paper's table in several forms.

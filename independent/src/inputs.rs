@@ -149,6 +149,31 @@ pub fn any_parts(random: &mut Random) -> Parts {
     parts(random, set, constants, count)
 }
 
+/// All channels with all attributes, none of them constant.
+pub fn greatest_parts(random: &mut Random, count: i64) -> Parts {
+    let mut description = Description::default();
+    for (channel, said) in description.iter_mut().enumerate() {
+        let flags = 0xF8 | random.byte() & 2;
+        *said = self::said(random, Format::Full, channel, flags);
+    }
+    of_description(random, description, count)
+}
+
+/// The same parts with the values column after column: of each point its first value, then of each
+/// its second, and so on. Values of a wrong amount are as many as before.
+pub fn in_columns(parts: &Parts) -> Parts {
+    let channels = stored(&parts.description).len();
+    let column = |number| parts.values.iter().skip(number).step_by(channels).copied();
+    let values = match channels {
+        0 => parts.values.clone(),
+        _ => (0..channels).flat_map(column).collect(),
+    };
+    Parts {
+        values,
+        ..parts.clone()
+    }
+}
+
 /// The record's bytes. Parts made here are good, so the writer never refuses them.
 pub fn bytes(parts: &Parts) -> Vec<u8> {
     writing::write(parts, usize::MAX).unwrap_or_default()

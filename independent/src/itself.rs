@@ -1,10 +1,12 @@
 //! The check of this program by itself, before there is any other: what it writes it reads
 //! back, what it reads it writes again, its readings keep the order of request L11, it has none
 //! without a scaling value (request L3), it names the numbers out of range in stored order
-//! (request L2), it looks points up by themselves (request L7), and the typed answers are its own.
+//! (request L2), it looks points up by themselves (request L7), it reads and writes points by
+//! column (request L9), and the typed answers are its own.
 
 use crate::apart;
 use crate::asking;
+use crate::by_column;
 use crate::compare::Comparison;
 use crate::description::stored;
 use crate::inputs;
@@ -50,6 +52,7 @@ pub fn check(seed: u64, cases: usize) -> bool {
         calibration(&mut counts, &mut random);
         mending::check(&mut counts, &mut random);
         apart::check(&mut counts, &mut random);
+        by_column::check(&mut counts, &mut random);
     }
     for _ in 0..cases.div_ceil(5) {
         let mut parts = inputs::any_parts(&mut random);
@@ -87,7 +90,8 @@ fn record_there_and_back(counts: &mut Counts, random: &mut Random, parts: Parts)
     }
 }
 
-fn parts_of(bytes: &[u8]) -> Option<Parts> {
+/// The parts of a whole record, its values point after point.
+pub fn parts_of(bytes: &[u8]) -> Option<Parts> {
     let record = record::whole(bytes).ok()?;
     let extended = record.extended.map(|_| record::extended(bytes).to_vec());
     let values = values_of(bytes, &record);

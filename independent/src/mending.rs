@@ -23,7 +23,7 @@ pub fn check(counts: &mut Counts, random: &mut Random) {
 
 /// The names as they came while `mend` put the numbers right, and then the last refusal if it
 /// names nothing.
-fn names<T>(
+pub fn names<T>(
     thing: &mut T,
     attempt: impl Fn(&T) -> Result<(), Refusal>,
     mend: impl Fn(&mut T, Which),
@@ -47,7 +47,7 @@ fn holds(found: (Vec<Which>, Option<Refusal>), put_out: BTreeSet<Which>) -> bool
     found == (put_out.into_iter().collect(), None)
 }
 
-fn outside(random: &mut Random, (low, high): (i64, i64)) -> i64 {
+pub fn outside(random: &mut Random, (low, high): (i64, i64)) -> i64 {
     random.pick(&[low - 1, high + 1, low - 70000, high + 70000])
 }
 

@@ -1,11 +1,11 @@
 //! Makes the lines of questions.
 
-use crate::answers::{digits, hex};
+use crate::answers::{digits, hex, values};
 use crate::description::{words, Description};
 use crate::template::Template;
 use crate::writing::Parts;
 
-/// A question whose only words are BYTES: judge, whole, extended, rest, template.
+/// A question whose only words are BYTES: judge, whole, extended, rest, columns, template.
 pub fn of_bytes(question: &str, bytes: &[u8]) -> String {
     format!("{question} {}", digits(bytes))
 }
@@ -22,30 +22,33 @@ pub fn step(place: usize, bytes: &[u8]) -> String {
     format!("step {place} {}", digits(bytes))
 }
 
-/// VALUES: numbers with commas, `-` for none.
-fn values(values: &[i64]) -> String {
-    if values.is_empty() {
-        return "-".to_string();
-    }
-    let texts: Vec<String> = values.iter().map(i64::to_string).collect();
-    texts.join(",")
+pub fn columns_in(amount: usize, bytes: &[u8]) -> String {
+    format!("columns-in {amount} {}", digits(bytes))
 }
 
 pub fn write(parts: &Parts, room: usize) -> String {
-    let extended = parts
-        .extended
-        .as_ref()
-        .map_or("!".to_string(), |bytes| hex(bytes));
-    write_with(parts, &extended, room)
+    write_with(parts, &extended(parts), room)
+}
+
+/// The values of the parts stand column after column.
+pub fn write_columns(parts: &Parts, room: usize) -> String {
+    from_values("write-columns", parts, &extended(parts), room)
 }
 
 /// With a given EXTENDED word.
 pub fn write_with(parts: &Parts, extended: &str, room: usize) -> String {
+    from_values("write", parts, extended, room)
+}
+
+fn extended(parts: &Parts) -> String {
+    let wanted = parts.extended.as_ref();
+    wanted.map_or("!".to_string(), |bytes| hex(bytes))
+}
+
+fn from_values(question: &str, parts: &Parts, extended: &str, room: usize) -> String {
     let (count, values) = (parts.count, values(&parts.values));
-    format!(
-        "write {count} {values} {extended} {room}{}",
-        words(&parts.description)
-    )
+    let said = words(&parts.description);
+    format!("{question} {count} {values} {extended} {room}{said}")
 }
 
 pub fn write_template(template: &Template, room: usize) -> String {

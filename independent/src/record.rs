@@ -116,7 +116,8 @@ fn skip_extended(cursor: &mut Cursor) -> Result<usize, Refusal> {
     Ok(start)
 }
 
-fn read_value(cursor: &mut Cursor, channel: usize) -> Result<i64, Refusal> {
+/// The number of a channel that comes next: 1 or 8, as its bytes come.
+pub fn read_value(cursor: &mut Cursor, channel: usize) -> Result<i64, Refusal> {
     let (low, high) = value_range(channel);
     let place = cursor.place();
     let value = cursor.number(value_width(channel))? + low;

@@ -22,6 +22,7 @@ pub const NOT_NEGATIVE: (i64, i64) = (0, ANY.1);
 pub const OF_A_CHANNEL: (i64, i64) = (-2_147_483_648, 2_147_483_647);
 pub const MAXIMUM: (i64, i64) = (0, 4_294_967_295);
 pub const ROOM: (i64, i64) = (0, 131_072);
+pub const AMOUNT: (i64, i64) = (0, 131_072);
 
 /// The words of one line, taken from the left.
 pub struct Words<'a> {

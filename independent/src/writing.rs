@@ -3,6 +3,7 @@
 use crate::description::{self, put_number, stored, value_range, value_width, Description, Format};
 use crate::record::{GREATEST_COUNT, IDENTIFIER, VERSION};
 use crate::refusal::Refusal;
+use crate::values::{demand_amount, Order};
 use crate::which::{check, Which};
 
 /// What the length field of extended data holds: it has two bytes (notes A3).
@@ -17,9 +18,15 @@ pub struct Parts {
     pub extended: Option<Vec<u8>>,
 }
 
+/// From values that stand point after point.
 pub fn write(parts: &Parts, room: usize) -> Result<Vec<u8>, Refusal> {
-    judge(parts)?;
-    let record = put(parts);
+    write_from(Order::Points, parts, room)
+}
+
+/// From values that stand in this order. Only where a value is sought depends on it.
+pub fn write_from(order: Order, parts: &Parts, room: usize) -> Result<Vec<u8>, Refusal> {
+    judge(order, parts)?;
+    let record = put(order, parts);
     fits(record, room)
 }
 
@@ -31,14 +38,11 @@ pub fn fits(result: Vec<u8>, room: usize) -> Result<Vec<u8>, Refusal> {
     Ok(result)
 }
 
-fn judge(parts: &Parts) -> Result<(), Refusal> {
+fn judge(order: Order, parts: &Parts) -> Result<(), Refusal> {
     description::judge(&parts.description, Format::Full)?;
     check(Which::Count, parts.count, 0..=GREATEST_COUNT)?;
-    let channels = stored(&parts.description);
-    if parts.values.len() as i64 != parts.count * channels.len() as i64 {
-        return Err(Refusal::bare(13));
-    }
-    judge_values(&parts.values, &channels)?;
+    demand_amount(parts.values.len(), &parts.description, parts.count)?;
+    judge_values(order, &parts.values, &stored(&parts.description))?;
     if parts
         .extended
         .as_ref()
@@ -49,30 +53,26 @@ fn judge(parts: &Parts) -> Result<(), Refusal> {
     Ok(())
 }
 
-/// The values go as they were lent, point after point. The index counts them all; it does not
-/// begin again with each point.
-fn judge_values(values: &[i64], channels: &[usize]) -> Result<(), Refusal> {
-    let with_channels = values.iter().zip(channels.iter().cycle());
-    for (index, (value, &channel)) in with_channels.enumerate() {
+/// The values are judged point after point, however they stand. The index is that among the values
+/// as they were lent; it does not begin again with each point or column.
+fn judge_values(order: Order, values: &[i64], channels: &[usize]) -> Result<(), Refusal> {
+    for (index, channel) in order.in_point_order(values.len(), channels) {
         let (low, high) = value_range(channel);
-        check(Which::Value { index, channel }, *value, low..=high)?;
+        check(Which::Value { index, channel }, values[index], low..=high)?;
     }
     Ok(())
 }
 
-fn put(parts: &Parts) -> Vec<u8> {
+fn put(order: Order, parts: &Parts) -> Vec<u8> {
     let mut out = [IDENTIFIER, VERSION].concat();
     description::put(&mut out, &parts.description, Format::Full);
     out.push(0);
     out.push(if parts.extended.is_some() { 0x80 } else { 0 });
     put_number(&mut out, parts.count, 3);
     let channels = stored(&parts.description);
-    for (value, &channel) in parts.values.iter().zip(channels.iter().cycle()) {
-        put_number(
-            &mut out,
-            value - value_range(channel).0,
-            value_width(channel),
-        );
+    for (index, channel) in order.in_point_order(parts.values.len(), &channels) {
+        let stored = parts.values[index] - value_range(channel).0;
+        put_number(&mut out, stored, value_width(channel));
     }
     if let Some(bytes) = &parts.extended {
         put_number(&mut out, bytes.len() as i64, 2);

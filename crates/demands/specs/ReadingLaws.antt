@@ -3,7 +3,7 @@ use mathlib.Core.Path.{_≡_, refl, sym, ap, ap₂, _∙_}
 use mathlib.Core.Bool.{Bool, true, false}
 use mathlib.Core.List.{List, [], _∷_, _++_, append-assoc, flatMap, flatten}
 use mathlib.Core.Option.{Option, none, some}
-use Prim.Native.Nat.{ℕ, zero, suc, _+_, _*_, _-_, _≤_, _<_}
+use Prim.Native.Nat.{ℕ, suc, _+_, _*_, _-_, _≤_, _<_}
 use native.Mathlib.Nat.{mul-le-mul-right}
 use native.Mathlib.Omega.{arith}
 use lib.IntN.{ℤ, pos}
@@ -17,9 +17,9 @@ use Rattle.refusals.specs.declared.Refusal.{Refusal}
 use Rattle.channels.specs.declared.Place.{Place}
 use Rattle.points.specs.Points.{storedFrom, channels, encodePoint}
 use Rattle.point_places.specs.Places.{unstored, placesOf, nowhere}
-use Rattle.values.specs.Values.{size, step, stride, pointsOf}
-use Rattle.values.specs.OrderLaws.{points-many, number-is}
-use Rattle.values.specs.declared.Order.the-variants.{Point}
+use Rattle.orders.specs.Orders.{size, step, stride, pointsOf}
+use Rattle.orders.specs.OrderLaws.{points-many, number-is, size-at}
+use Rattle.orders.specs.declared.Order.the-variants.{Point}
 use Rattle.records.specs.Record.{Record, stored, header, openingByte, encodeExtended, encode, extendedBytes}
 use Rattle.record_reading.specs.Verdict.{verdictFrom, judged}
 use Rattle.record_points.specs.Pointing.{pointedAt, placesIn}
@@ -55,11 +55,6 @@ last-part b last rest x =
     ap (λ l. take (length last) (drop (length b - length last) l)) whole ∙ ap (take (length last)) (drop-at (x .first) (last ++ rest) (length b - length last) place) ∙ take-append-seam last rest
 
 -- ---- The numbers of a point
-
-pub size-at : (k : ℕ) (l : List (List ℤ)) → All (λ p. length p ≡ k) l → (i : ℕ) → i < length l → length (getD l i []) ≡ k
-size-at k [] h i q = absurd (omega arith)
-size-at k (p ∷ l) h zero q = h .0
-size-at k (p ∷ l) h (suc i) q = size-at k l (h .1) i (omega arith)
 
 -- in point order they stand side by side
 pub numbers-at : (count k : ℕ) (values : List ℤ) → length values ≡ count * k → All (λ p. length p ≡ k) (pointsOf Point count k values) → (i : ℕ) → i < count

@@ -11,8 +11,9 @@ use Rattle.formats.specs.Bytes.{Bytes}
 use Rattle.formats.specs.Law.{whole}
 use Rattle.formats.specs.Reader.{ok, run}
 use Rattle.channels.specs.declared.Place.{Place}
-use Rattle.values.specs.Values.{size}
-use Rattle.values.specs.OrderLaws.{valid-sizes}
+use Rattle.orders.specs.Orders.{size}
+use Rattle.orders.specs.OrderLaws.{size-at}
+use Rattle.values.specs.ValueLaws.{valid-sizes}
 use Rattle.records.specs.Record.{fullRecord, included, stored, IsRecord, present, extendedBytes}
 use Rattle.records.specs.Demands.{write-after-read}
 use Rattle.record_reading.specs.declared.Verdict.the-variants as verdict
@@ -21,7 +22,7 @@ use Rattle.demands.specs.Promises as promises
 use Rattle.demands.specs.Saying.{saying, numbersIn, numbersOf}
 use Rattle.demands.specs.JudgingLaws.{record-read, read-judged}
 use Rattle.demands.specs.Reading.{point-told}
-use Rattle.demands.specs.ReadingLaws.{size-at, numbers-in, numbers-of-from}
+use Rattle.demands.specs.ReadingLaws.{numbers-in, numbers-of-from}
 
 pub extended-given : (wanted : Bool) (extended : List ℕ) → extendedBytes (cond wanted (some extended) none) ≡ cond wanted extended []
 unfolding extendedBytes

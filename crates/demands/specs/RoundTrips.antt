@@ -15,16 +15,17 @@ use Rattle.refusals.specs.declared.Refusal.the-variants.{NoPoint}
 use Rattle.channels.specs.declared.Description.{Description}
 use Rattle.channels.specs.declared.Place.{Place}
 use Rattle.point_places.specs.Places.{placesOf, nowhere}
-use Rattle.values.specs.Values.{size, pointsOf}
-use Rattle.values.specs.OrderLaws.{points-many, fits-valid, valid-sizes}
-use Rattle.values.specs.declared.Order.the-variants.{Point}
+use Rattle.orders.specs.Orders.{size, pointsOf, valuesOf}
+use Rattle.orders.specs.OrderLaws.{points-many}
+use Rattle.orders.specs.declared.Order.the-variants.{Point}
+use Rattle.values.specs.ValueLaws.{fits-valid, valid-sizes}
 use Rattle.records.specs.Record.{Record, fullRecord, encode, included, stored, IsRecord}
 use Rattle.record_reading.specs.Verdict.{judged, judgedWhole}
 use Rattle.record_reading.specs.declared.Verdict.the-variants as verdict
 use Rattle.record_reading.specs.declared.Judged.{Judged}
 use Rattle.record_points.specs.declared.Pointed.{Pointed}
 use Rattle.record_points.specs.declared.Pointed.the-variants as pointed
-use Rattle.record_writing.specs.Write.{recordOf, writeOf}
+use Rattle.record_writing.specs.Write.{recordIn, writeOf}
 use Rattle.record_writing.specs.WriteLaws.{passes-valid}
 use Rattle.record_writing.specs.RoundTrips as trips
 use Rattle.record_writing.specs.RoundTrips.{Wrote}
@@ -43,10 +44,10 @@ use Rattle.demands.specs.RoundTripLaws.{extended-given, meant, in-a-row}
 module _ (d : Description) (sixteen : length (d .channels) ≡ 16) (count : ℕ) (values : List ℤ) (wanted : Bool) (extended : List ℕ) (lent : Bytes extended) (out : List ℕ)
     (n : ℕ) (s : RefT (List ℕ)) (wrote : promises.write d count values wanted extended out (written.Record n) (now s)) where
   abbrev asked : Record
-  asked = recordOf d count values wanted extended
+  asked = recordIn Point d count values wanted extended
 
-  told : Wrote d count values wanted extended out n (now s)
-  told = trips.wrote d count values wanted extended out (sym wrote)
+  told : Wrote Point d count values wanted extended out n (now s)
+  told = trips.wrote Point d count values wanted extended out (sym wrote)
 
   within : n ≤ length (now s)
   within = rw (told .holds) (omega (arith, told .size, length-append (encode asked) (drop n out)))
@@ -54,7 +55,7 @@ module _ (d : Description) (sixteen : length (d .channels) ≡ 16) (count : ℕ)
   abbrev the-record : IsRecord (take n (now s))
   the-record = record {
     value = asked;
-    valid = passes-valid d count values wanted extended (told .passes) sixteen lent;
+    valid = passes-valid Point d count values wanted extended (told .passes) sixteen lent;
     written = ap (take n) (told .holds) ∙ take-at (encode asked) (drop n out) n (sym (told .size));
   }
 
@@ -64,12 +65,12 @@ module _ (d : Description) (sixteen : length (d .channels) ≡ 16) (count : ℕ)
 
   -- judge says the length that write answered, and the count, the description and the presence of extended data that were given
   pub written-judged : (r : Judged) → promises.judge (now s) r → r ≡ record { verdict = verdict.Record n count wanted; description = d }
-  written-judged r answers = answers ∙ trips.written-judged d count values wanted extended out sixteen lent (sym wrote)
+  written-judged r answers = answers ∙ trips.written-judged Point d count values wanted extended out sixteen lent (sym wrote)
 
   -- and so does judge_whole, of the record alone
   pub written-judged-whole : (r : Judged) → promises.judgeWhole (take n (now s)) r → r ≡ record { verdict = verdict.Record n count wanted; description = d }
   written-judged-whole r answers =
-      let read = trips.written-read d count values wanted extended out sixteen lent (sym wrote) in
+      let read = trips.written-read Point d count values wanted extended out sixteen lent (sym wrote) in
       let size : length (take n (now s)) ≡ n = length-take-le n (now s) within in
       let alone : run fullRecord (take n (now s)) ≡ ok asked n = reads-take fullRecord (now s) read ∙ ap (ok asked) size in
       answers
@@ -81,7 +82,7 @@ module _ (d : Description) (sixteen : length (d .channels) ≡ 16) (count : ℕ)
   -- of each index below the count judge_point says that there is a point, and point hands out the numbers of it that were given, in their places
   module _ (index : ℕ) (inside : index < count) where
     amid : index < length (asked .points)
-    unfolding recordOf
+    unfolding recordIn
     amid = rw (points-many Point count (size (stored d)) values) inside
 
     pub written-point-said : (r : Pointed) → promises.judgePoint (now s) index r → r ≡ pointed.Point
@@ -89,7 +90,7 @@ module _ (d : Description) (sixteen : length (d .channels) ≡ 16) (count : ℕ)
 
     pub written-point-told : (r : List Place) → promises.point (now s) index r
         → r ≡ placesOf (included d) (stored d) (take (size (stored d)) (drop (index * size (stored d)) values))
-    unfolding recordOf
+    unfolding recordIn
     written-point-told r answers =
         let fit = fits-valid 2 (stored d) Point count values (told .passes .numbered .fitting) in
         point-told s n within the-record index amid r answers
@@ -98,7 +99,7 @@ module _ (d : Description) (sixteen : length (d .channels) ≡ 16) (count : ℕ)
   -- of every other index judge_point says 10, and point hands out sixteen absent places
   module _ (index : ℕ) (outside : count ≤ index) where
     behind : length (asked .points) ≤ index
-    unfolding recordOf
+    unfolding recordIn
     behind = rw (points-many Point count (size (stored d)) values) outside
 
     pub written-no-point-said : (r : Pointed) → promises.judgePoint (now s) index r → r ≡ pointed.Refused NoPoint
@@ -109,7 +110,7 @@ module _ (d : Description) (sixteen : length (d .channels) ≡ 16) (count : ℕ)
 
   -- extended hands out the extended data that were given where they were wanted, and no byte where they were not
   pub written-extended-told : (r : RefT (List ℕ)) → promises.extended s r → now r ≡ cond wanted extended []
-  unfolding recordOf
+  unfolding recordIn
   written-extended-told r part = extended-told s n within the-record r part ∙ extended-given wanted extended
 
   -- rest hands out what the output held behind the record
@@ -127,9 +128,10 @@ module _ (s : RefT (List ℕ)) (bytes : Bytes (now s))
   pub read-written : (out : List ℕ) → n ≤ length out → (answer : Written) (after : List ℕ)
       → promises.write (r .description) count (numbersOf points count 0) wanted (now extended) out answer after
       → (answer ≡ written.Record n) × (after ≡ take n (now s) ++ drop n out)
+  unfolding valuesOf
   read-written out room answer after writes =
       let x = meant (now s) bytes r judges n count wanted said in
       let row = ap (λ k. numbersOf points k 0) (x .counted) ∙ in-a-row s n (x .within) (x .bytes) points (λ i h. pointed i (omega (arith, x .counted, h))) in
       let part = extended-told s n (x .within) (x .bytes) extended handed in
-      let same = writes ∙ (λ i. writeOf (x .described i) (x .counted i) (row i) (x .presence i) (part i) out) ∙ trips.read-written (now s) bytes (x .bytes .value) n (x .read) out room in
+      let same = writes ∙ (λ i. writeOf (x .described i) (x .counted i) (row i) (x .presence i) (part i) out) ∙ trips.read-written Point (now s) bytes (x .bytes .value) n (x .read) out room in
       (ap (λ w. w .answer) same, ap (λ w. w .bytes) same)

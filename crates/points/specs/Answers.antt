@@ -8,7 +8,10 @@ use Rattle.formats.specs.Reader.{readAt, times}
 use Rattle.formats.specs.Told.{told}
 use Rattle.channels.specs.Channel.{widthOf}
 use Rattle.channels.specs.declared.Format.{Format}
-use Rattle.points.specs.Points.{point, width}
+use Rattle.points.specs.Points.{point, sampleSize, width}
+
+pub one-sample-size : (format : Format) (channel : ℕ) → OneAnswer (λ r. (r ≡ sampleSize (widthOf format) channel) × (r ≤ 2))
+one-sample-size format channel r q e g = named r q (e .0) (g .0)
 
 pub one-width : (format : Format) (stored : List Bool) → OneAnswer (λ r. (r ≡ width (widthOf format) stored) × (r ≤ 32))
 one-width format stored r q e g = named r q (e .0) (g .0)

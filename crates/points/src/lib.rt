@@ -15,7 +15,7 @@ ghost use Rattle.points.specs.Points.{storedFrom, point, sampleSize, wid
 ghost use Rattle.points.specs.Parts.{switched};
 
 // How many bytes a channel's number has in a sample point: one for S, as many as the format says for any other.
-fn sample_size(format: Format, channel: usize) -> usize
+pub fn sample_size(format: Format, channel: usize) -> usize
     ensures { λ r. ⌜ (r ≡ sampleSize (widthOf format) channel) × (r ≤ 2) ⌝ }
 {
     if channel == channels::S {

@@ -1,5 +1,6 @@
 // Questions: the name of each is found, and the bytes that it is asked of; the rooms of the questions answer.
 use hex::Amount;
+use orders::Order;
 
 const JUDGE: usize = 0;
 
@@ -11,24 +12,30 @@ const REST: usize = 3;
 
 const TEMPLATE: usize = 4;
 
-const POINT: usize = 5;
+const COLUMNS: usize = 5;
 
-const STEP: usize = 6;
+const POINT: usize = 6;
 
-const LOOK_UP: usize = 7;
+const STEP: usize = 7;
 
-const WRITE: usize = 8;
+const LOOK_UP: usize = 8;
 
-const WRITE_TEMPLATE: usize = 9;
+const COLUMNS_IN: usize = 9;
 
-const THOUSANDTHS: usize = 10;
+const WRITE: usize = 10;
 
-const PLACE: usize = 11;
+const WRITE_COLUMNS: usize = 11;
 
-// The question of a name, or 12 where there is no such question.
+const WRITE_TEMPLATE: usize = 12;
+
+const THOUSANDTHS: usize = 13;
+
+const PLACE: usize = 14;
+
+// The question of a name, or 15 where there is no such question.
 fn question_of(name: &[u8]) -> usize {
     words::which(
-        b"judge whole extended rest template point step look-up write write-template thousandths place",
+        b"judge whole extended rest template columns point step look-up columns-in write write-columns write-template thousandths place",
         b' ',
         name,
     )
@@ -39,9 +46,10 @@ pub fn answer(text: &mut [u8; 65536], used: u16, line: &[u8]) -> u16 {
     let span = words::next(line, b' ', 0);
     let question = question_of(words::part(line, span.from, span.to));
     match question {
-        JUDGE..=TEMPLATE => of_bytes(text, used, question, 0, line, span.to),
-        POINT..=LOOK_UP => of_number_and_bytes(text, used, question, line, span.to),
-        WRITE => writing_questions::write(text, used, line, span.to),
+        JUDGE..=COLUMNS => of_bytes(text, used, question, 0, line, span.to),
+        POINT..=COLUMNS_IN => of_number_and_bytes(text, used, question, line, span.to),
+        WRITE => writing_questions::write(text, used, line, span.to, Order::Point),
+        WRITE_COLUMNS => writing_questions::write(text, used, line, span.to, Order::Column),
         WRITE_TEMPLATE => writing_questions::write_template(text, used, line, span.to),
         THOUSANDTHS => reading_questions::raw(text, used, line, span.to),
         PLACE => reading_questions::place(text, used, line, span.to),
@@ -49,7 +57,7 @@ pub fn answer(text: &mut [u8; 65536], used: u16, line: &[u8]) -> u16 {
     }
 }
 
-// A number that any 64 bits may be, and then bytes.
+// A number and then bytes. It may be any of 64 bits, or the amount of numbers that are lent.
 fn of_number_and_bytes(
     text: &mut [u8; 65536],
     used: u16,
@@ -57,7 +65,12 @@ fn of_number_and_bytes(
     line: &[u8],
     at: usize,
 ) -> u16 {
-    let number = numerals::natural_at(line, at, 18446744073709551615);
+    let most = if question == COLUMNS_IN {
+        131072
+    } else {
+        18446744073709551615
+    };
+    let number = numerals::natural_at(line, at, most);
     if number.reason != words::NO_REASON {
         return answers::cannot(text, used, number.reason);
     }
@@ -97,7 +110,7 @@ fn of_bytes(
     ask(text, used, question, index, lent(&space, amount.count))
 }
 
-// What is asked of bytes; of a point its index is told, and of a step its place.
+// What is asked of bytes; of a point its index is told, of a step its place, and of columns how many numbers are lent.
 fn ask(text: &mut [u8; 65536], used: u16, question: usize, index: usize, bytes: &[u8]) -> u16 {
     match question {
         JUDGE..=WHOLE => record_questions::judge(text, used, bytes, question == WHOLE),
@@ -106,6 +119,8 @@ fn ask(text: &mut [u8; 65536], used: u16, question: usize, index: usize, bytes: 
         POINT => record_questions::point(text, used, bytes, index),
         STEP => record_questions::step(text, used, bytes, index),
         LOOK_UP => lookup_questions::look_up(text, used, bytes, index),
+        COLUMNS => column_questions::columns(text, used, bytes),
+        COLUMNS_IN => column_questions::columns_in(text, used, bytes, index),
         _ => template_questions::read(text, used, bytes),
     }
 }

@@ -16,8 +16,9 @@ use Rattle.refusals.specs.Stages.{orElse}
 use Rattle.refusals.specs.declared.Refusal.{Refusal}
 use Rattle.refusals.specs.declared.Judgement.the-variants.{Refused}
 use Rattle.description_judging.specs.Judging as described
+use Rattle.orders.specs.declared.Order.{Order}
 use Rattle.records.specs.Record.{encodeExtended}
-use Rattle.record_writing.specs.Write.{judgementOf, putWhere, writeOf}
+use Rattle.record_writing.specs.Write.{judgementIn, putWhere, writeIn}
 use Rattle.record_writing.specs.Parts.{openingBytes}
 use Rattle.record_writing.specs.declared.Written.the-variants as answers
 
@@ -39,10 +40,10 @@ laid-five s at a b c d e =
     record { place = refl; bytes = rw (z, y, x) }
 
 -- a record whose description is refused is refused so, and nothing is put
-pub refused-written : (d : Description) (count : ℕ) (values : List ℤ) (wanted : Bool) (extended out : List ℕ) {refusal : Refusal} → described.judgementOf 2 d ≡ Refused refusal
-    → writing (answers.Refused refusal) out ≡ writeOf d count values wanted extended out
-unfolding writeOf judgementOf orElse putWhere
-refused-written d count values wanted extended out e = rw e
+pub refused-written : (order : Order) (d : Description) (count : ℕ) (values : List ℤ) (wanted : Bool) (extended out : List ℕ) {refusal : Refusal} → described.judgementOf 2 d ≡ Refused refusal
+    → writing (answers.Refused refusal) out ≡ writeIn order d count values wanted extended out
+unfolding writeIn judgementIn orElse putWhere
+refused-written order d count values wanted extended out e = rw e
 
 -- ---- Extended data that are wanted
 

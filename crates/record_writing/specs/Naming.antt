@@ -14,25 +14,26 @@ use Rattle.refusals.specs.declared.Refusal.the-variants.{OutOfRange}
 use Rattle.channels.specs.declared.Description.{Description}
 use Rattle.descriptions.specs.Description.{includesXY, tidy}
 use Rattle.description_judging.specs.Judging as described
-use Rattle.values.specs.Values.{size, samples}
-use Rattle.values.specs.declared.Order.the-variants.{Point}
+use Rattle.orders.specs.Orders.{size}
+use Rattle.values.specs.Values.{samples}
+use Rattle.orders.specs.declared.Order.{Order}
 use Rattle.records.specs.Record.{stored}
-use Rattle.record_writing.specs.Write.{countFits, writeOf}
+use Rattle.record_writing.specs.Write.{countFits, writeIn}
 use Rattle.record_writing.specs.declared.Written.the-variants.{Refused}
 
--- the numbers of a record in stored order: those of the description, the count, and the sample values in point order
-unfoldable pub numbers : Description → (count : ℕ) (values : List ℤ) → List Ranged
-numbers d count values = described.numbers 2 d ++ (Count fitsIf countFits count) ∷ samples 2 (stored d) Point count values
+-- the numbers of a record in stored order: those of the description, the count, and the sample values in point order, whichever the order that they are lent in
+unfoldable pub numbers : Order → Description → (count : ℕ) (values : List ℤ) → List Ranged
+numbers order d count values = described.numbers 2 d ++ (Count fitsIf countFits count) ∷ samples 2 (stored d) order count values
 
--- where write answers 12, whatever the output holds then, the number that it names is out of its range, and every earlier one in stored order is in its own
+-- where a writer answers 12, whatever the output holds then, the number that it names is out of its range, and every earlier one in stored order is in its own
 abbrev pub NamesFirst : Type 0
 NamesFirst =
-    (d : Description) (count : ℕ) (values : List ℤ) (wanted : Bool) (extended out bytes : List ℕ) (name : Quantity)
-    → writing (Refused (OutOfRange name)) bytes ≡ writeOf d count values wanted extended out → FirstOutside (numbers d count values) name
+    (order : Order) (d : Description) (count : ℕ) (values : List ℤ) (wanted : Bool) (extended out bytes : List ℕ) (name : Quantity)
+    → writing (Refused (OutOfRange name)) bytes ≡ writeIn order d count values wanted extended out → FirstOutside (numbers order d count values) name
 
 -- and where X and Y are included, the description is tidy and the amount of values is right, the first that is out of its range is named
 abbrev pub NamesEvery : Type 0
 NamesEvery =
-    (d : Description) (count : ℕ) (values : List ℤ) (wanted : Bool) (extended out : List ℕ) (name : Quantity)
-    → T (includesXY d) → T (tidy d) → length values ≡ count * size (stored d) → FirstOutside (numbers d count values) name
-    → writing (Refused (OutOfRange name)) out ≡ writeOf d count values wanted extended out
+    (order : Order) (d : Description) (count : ℕ) (values : List ℤ) (wanted : Bool) (extended out : List ℕ) (name : Quantity)
+    → T (includesXY d) → T (tidy d) → length values ≡ count * size (stored d) → FirstOutside (numbers order d count values) name
+    → writing (Refused (OutOfRange name)) out ≡ writeIn order d count values wanted extended out

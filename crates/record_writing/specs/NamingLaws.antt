@@ -23,10 +23,11 @@ use Rattle.descriptions.specs.Description.{includesXY, tidy}
 use Rattle.description_judging.specs.Judging as described
 use Rattle.description_judging.specs.NamingLaws.{by-numbers, tidy-first}
 use Rattle.values.specs.Values as values
-use Rattle.values.specs.Values.{size, samples}
-use Rattle.values.specs.declared.Order.the-variants.{Point}
+use Rattle.orders.specs.Orders.{size}
+use Rattle.values.specs.Values.{samples}
+use Rattle.orders.specs.declared.Order.{Order}
 use Rattle.records.specs.Record.{stored, encode}
-use Rattle.record_writing.specs.Write.{recordOf, countFits, numbersJudged, judgementOf, putWhere, writeOf}
+use Rattle.record_writing.specs.Write.{recordIn, countFits, numbersJudged, judgementIn, putWhere, writeIn}
 use Rattle.record_writing.specs.declared.Written.the-variants as written
 use Rattle.record_writing.specs.Naming.{numbers, NamesFirst, NamesEvery}
 
@@ -54,28 +55,28 @@ in-turn Passed false sampled small name e = e
 in-turn Passed true (Refused refusal) small name e = e
 in-turn Passed true Passed small name e = impossible (cc)
 
-module _ (d : Description) (count : ℕ) (lent : List ℤ) (wanted : Bool) (extended : List ℕ) (name : Quantity) where
+module _ (order : Order) (d : Description) (count : ℕ) (lent : List ℤ) (wanted : Bool) (extended : List ℕ) (name : Quantity) where
   abbrev attributes : Judgement
   attributes = firstMisfit (described.numbers 2 d)
 
   abbrev sampled : Judgement
-  sampled = firstMisfit (samples 2 (stored d) Point count lent)
+  sampled = firstMisfit (samples 2 (stored d) order count lent)
 
-  first : judgementOf d count lent wanted extended ≡ Refused (OutOfRange name) → FirstOutside (numbers d count lent) name
-  unfolding judgementOf values.judgementOf numbersJudged numbers firstMisfit
+  first : judgementIn order d count lent wanted extended ≡ Refused (OutOfRange name) → FirstOutside (numbers order d count lent) name
+  unfolding judgementIn values.judgementOf numbersJudged numbers firstMisfit
   first e =
-      let x = tidy-first 2 d (numbersJudged (stored d) count lent wanted extended) name e in
+      let x = tidy-first 2 d (numbersJudged order (stored d) count lent wanted extended) name e in
       let e′ = rw (by-numbers 2 d (x .0) (x .1)) at e in
       named-first
-      (numbers d count lent)
+      (numbers order d count lent)
       name
       (joined (described.numbers 2 d) _ ∙ in-order attributes (countFits count) (eqb (length lent) (count * size (stored d))) sampled (not (wanted && ltb 65535 (length extended))) name e′)
 
-  every : T (includesXY d) → T (tidy d) → length lent ≡ count * size (stored d) → FirstOutside (numbers d count lent) name → judgementOf d count lent wanted extended ≡ Refused (OutOfRange name)
-  unfolding judgementOf values.judgementOf numbersJudged numbers firstMisfit
+  every : T (includesXY d) → T (tidy d) → length lent ≡ count * size (stored d) → FirstOutside (numbers order d count lent) name → judgementIn order d count lent wanted extended ≡ Refused (OutOfRange name)
+  unfolding judgementIn values.judgementOf numbersJudged numbers firstMisfit
   every xy neat amount x =
       rw (by-numbers 2 d xy neat, eq-eqb (length lent) (count * size (stored d)) amount)
-      (in-turn attributes (countFits count) sampled (not (wanted && ltb 65535 (length extended))) name (sym (joined (described.numbers 2 d) _) ∙ first-named (numbers d count lent) name x))
+      (in-turn attributes (countFits count) sampled (not (wanted && ltb 65535 (length extended))) name (sym (joined (described.numbers 2 d) _) ∙ first-named (numbers order d count lent) name x))
 
 -- ---- The answer
 
@@ -90,10 +91,10 @@ by-a-stage Passed bytes out name e = go (leb (length bytes) (length out)) e
 by-a-stage (Refused refusal) bytes out name e = ap Refused (cc)
 
 pub names-first : NamesFirst
-unfolding writeOf
-names-first d count lent wanted extended out kept name e =
-    first d count lent wanted extended name (by-a-stage (judgementOf d count lent wanted extended) (encode (recordOf d count lent wanted extended)) out name (ap (λ v. v .answer) e))
+unfolding writeIn
+names-first order d count lent wanted extended out kept name e =
+    first order d count lent wanted extended name (by-a-stage (judgementIn order d count lent wanted extended) (encode (recordIn order d count lent wanted extended)) out name (ap (λ v. v .answer) e))
 
 pub names-every : NamesEvery
-unfolding writeOf putWhere
-names-every d count lent wanted extended out name xy neat amount x = sym (rw (every d count lent wanted extended name xy neat amount x))
+unfolding writeIn putWhere
+names-every order d count lent wanted extended out name xy neat amount x = sym (rw (every order d count lent wanted extended name xy neat amount x))

@@ -7,8 +7,8 @@ use lib.IntN.{ℤ}
 use Rattle.formats.specs.Number.{digits}
 use Rattle.formats.specs.Lent.{Writing}
 use Rattle.points.specs.Points.{encodePoint}
-use Rattle.values.specs.Values.{size, pointsOf}
-use Rattle.values.specs.declared.Order.the-variants.{Point}
+use Rattle.orders.specs.Orders.{size, pointsOf}
+use Rattle.orders.specs.declared.Order.{Order}
 use Rattle.records.specs.Record.{identifierBytes, versionBytes, encodeExtended}
 use Rattle.record_writing.specs.Write.{numbersJudged, putWhere}
 use Rattle.record_writing.specs.declared.Written.{Written}
@@ -22,12 +22,12 @@ unfoldable pub frontBytes : (described : List ℕ) (wanted : Bool) (count : ℕ)
 frontBytes described wanted count = identifierBytes ++ versionBytes ++ described ++ openingBytes wanted count
 
 -- the whole record
-unfoldable pub recordBytes : (described : List ℕ) (stored : List Bool) (count : ℕ) (numbers : List ℤ) (wanted : Bool) (extended : List ℕ) → List ℕ
-recordBytes described stored count numbers wanted extended =
+unfoldable pub recordBytes : Order → (described : List ℕ) (stored : List Bool) (count : ℕ) (numbers : List ℤ) (wanted : Bool) (extended : List ℕ) → List ℕ
+recordBytes order described stored count numbers wanted extended =
     frontBytes described wanted count
-    ++ (flatMap (encodePoint 2 stored) (pointsOf Point count (size stored) numbers) ++ encodeExtended (cond wanted (some extended) none))
+    ++ (flatMap (encodePoint 2 stored) (pointsOf order count (size stored) numbers) ++ encodeExtended (cond wanted (some extended) none))
 
 -- what becomes of a record whose description passed: of the description its bytes are known, and which channels are stored
-unfoldable pub writeDescribed : (described : List ℕ) (stored : List Bool) (count : ℕ) (numbers : List ℤ) (wanted : Bool) (extended : List ℕ) (out : List ℕ) → Writing Written
-writeDescribed described stored count numbers wanted extended out =
-    putWhere (recordBytes described stored count numbers wanted extended) out (numbersJudged stored count numbers wanted extended)
+unfoldable pub writeDescribed : Order → (described : List ℕ) (stored : List Bool) (count : ℕ) (numbers : List ℤ) (wanted : Bool) (extended : List ℕ) (out : List ℕ) → Writing Written
+writeDescribed order described stored count numbers wanted extended out =
+    putWhere (recordBytes order described stored count numbers wanted extended) out (numbersJudged order stored count numbers wanted extended)

@@ -1,7 +1,7 @@
 -- Reading and writing together, over what the functions promise: what was written is judged as what was asked for, and what was read is written as it stood.
 use mathlib.Core.Path.{_≡_, refl, sym, ap, ap₂, _∙_}
 use mathlib.Core.Bool.{Bool, true, false, cond}
-use mathlib.Core.List.{List, _++_, flatten}
+use mathlib.Core.List.{List, _++_}
 use mathlib.Core.Option.{Option, none, some}
 use Prim.Native.Nat.{ℕ, _+_, _≤_, _<_}
 use native.Mathlib.Nat.{sub-zero}
@@ -21,13 +21,14 @@ use Rattle.refusals.specs.declared.Judgement.{Judgement}
 use Rattle.refusals.specs.declared.Judgement.the-variants.{Passed, Refused}
 use Rattle.channels.specs.declared.Description.{Description}
 use Rattle.description_judging.specs.JudgingLaws.{valid-passed}
-use Rattle.values.specs.Values.{size}
-use Rattle.values.specs.OrderLaws.{points-many, row-points, valid-sizes, row-fits}
-use Rattle.values.specs.declared.Order.the-variants.{Point}
+use Rattle.orders.specs.Orders.{size, valuesOf}
+use Rattle.orders.specs.OrderLaws.{points-many, points-again}
+use Rattle.values.specs.ValueLaws.{valid-sizes, laid-fits}
+use Rattle.orders.specs.declared.Order.{Order}
 use Rattle.records.specs.Record.{Record, fullRecord, encode, stored, ValidExtended, Valid, present, extendedBytes}
 use Rattle.records.specs.Demands.{read-after-write, write-after-read}
 use Rattle.record_reading.specs.Verdict.{verdictFrom, descriptionIn, judged}
-use Rattle.record_writing.specs.Write.{recordOf, judgementOf, Passes, putWhere, writeOf}
+use Rattle.record_writing.specs.Write.{recordIn, judgementIn, Passes, putWhere, writeIn}
 use Rattle.record_writing.specs.WriteLaws.{passes, passes-valid, passing}
 use Rattle.record_reading.specs.declared.Verdict.the-variants as verdict
 use Rattle.record_writing.specs.declared.Written.the-variants as written
@@ -51,18 +52,18 @@ extended-small (some bytes) h q = omega (arith, h .0)
 
 -- ---- Written, and read again
 
-module _ (d : Description) (count : ℕ) (values : List ℤ) (wanted : Bool) (extended out : List ℕ) where
+module _ (order : Order) (d : Description) (count : ℕ) (values : List ℤ) (wanted : Bool) (extended out : List ℕ) where
   abbrev asked : Record
-  asked = recordOf d count values wanted extended
+  asked = recordIn order d count values wanted extended
 
   -- a record was written: every stage passed, there was room, and its bytes stand before what the output held behind them
   pub record Wrote (n : ℕ) (bytes : List ℕ) : Type 0 where
-    pub passes : Passes d count values wanted extended
+    pub passes : Passes order d count values wanted extended
     pub size : n ≡ length (encode asked)
     pub room : n ≤ length out
     pub holds : bytes ≡ encode asked ++ drop n out
 
-  by-room : {n : ℕ} {bytes : List ℕ} (t : Bool) → leb (length (encode asked)) (length out) ≡ t → Passes d count values wanted extended
+  by-room : {n : ℕ} {bytes : List ℕ} (t : Bool) → leb (length (encode asked)) (length out) ≡ t → Passes order d count values wanted extended
       → cond t (writing (written.Record (length (encode asked))) (puts out 0 (encode asked))) (writing (written.Refused Room) out) ≡ writing (written.Record n) bytes → Wrote n bytes
   by-room {n} {bytes} true h p e =
       let q = ap (λ x. x .answer) e in
@@ -76,62 +77,62 @@ module _ (d : Description) (count : ℕ) (values : List ℤ) (wanted : Bool) (ex
       }
   by-room false h p e = impossible (cc (ap (λ x. x .answer) e))
 
-  by-judgement : {n : ℕ} {bytes : List ℕ} (j : Judgement) → judgementOf d count values wanted extended ≡ j → putWhere (encode asked) out j ≡ writing (written.Record n) bytes → Wrote n bytes
+  by-judgement : {n : ℕ} {bytes : List ℕ} (j : Judgement) → judgementIn order d count values wanted extended ≡ j → putWhere (encode asked) out j ≡ writing (written.Record n) bytes → Wrote n bytes
   unfolding putWhere
-  by-judgement Passed q e = by-room (leb (length (encode asked)) (length out)) refl (passes d count values wanted extended q) e
+  by-judgement Passed q e = by-room (leb (length (encode asked)) (length out)) refl (passes order d count values wanted extended q) e
   by-judgement (Refused refusal) q e = impossible (cc (ap (λ x. x .answer) e))
 
-  pub wrote : {n : ℕ} {bytes : List ℕ} → writeOf d count values wanted extended out ≡ writing (written.Record n) bytes → Wrote n bytes
-  unfolding writeOf
-  wrote e = by-judgement (judgementOf d count values wanted extended) refl e
+  pub wrote : {n : ℕ} {bytes : List ℕ} → writeIn order d count values wanted extended out ≡ writing (written.Record n) bytes → Wrote n bytes
+  unfolding writeIn
+  wrote e = by-judgement (judgementIn order d count values wanted extended) refl e
 
   -- a description always has sixteen channels, and what is lent as extended data are bytes: so the record is read back, with its points and extended data
-  module _ (sixteen : length (d .channels) ≡ 16) (lent : Bytes extended) {n : ℕ} {bytes : List ℕ} (e : writeOf d count values wanted extended out ≡ writing (written.Record n) bytes) where
+  module _ (sixteen : length (d .channels) ≡ 16) (lent : Bytes extended) {n : ℕ} {bytes : List ℕ} (e : writeIn order d count values wanted extended out ≡ writing (written.Record n) bytes) where
     pub written-read : run fullRecord bytes ≡ ok asked n
     written-read =
         let w = wrote e in
-        ap (run fullRecord) (w .holds) ∙ read-after-write asked (drop n out) (passes-valid d count values wanted extended (w .passes) sixteen lent) ∙ ap (ok asked) (sym (w .size))
+        ap (run fullRecord) (w .holds) ∙ read-after-write asked (drop n out) (passes-valid order d count values wanted extended (w .passes) sixteen lent) ∙ ap (ok asked) (sym (w .size))
 
     -- and judged with its length, description and count, and whether extended data are present
     pub written-judged : judged (run fullRecord bytes) ≡ record { verdict = verdict.Record n count wanted; description = d }
-    unfolding verdictFrom descriptionIn recordOf
+    unfolding verdictFrom descriptionIn recordIn
     written-judged =
         ap judged written-read
-        ∙ (λ i. record { verdict = verdict.Record (sub-zero n i) (points-many Point count (size (stored d)) values i) (present-wanted wanted extended i); description = d })
+        ∙ (λ i. record { verdict = verdict.Record (sub-zero n i) (points-many order count (size (stored d)) values i) (present-wanted wanted extended i); description = d })
 
 -- ---- Read, and written again
 
-module _ (s : List ℕ) (bytes : Bytes s) (r : Record) (n : ℕ) (e : run fullRecord s ≡ ok r n) where
+module _ (order : Order) (s : List ℕ) (bytes : Bytes s) (r : Record) (n : ℕ) (e : run fullRecord s ≡ ok r n) where
   valid : Valid r
   valid = write-after-read s r n bytes e .0
 
   abbrev values : List ℤ
-  values = flatten (r .points)
+  values = valuesOf order (size (stored (r .description))) (r .points)
 
   abbrev extra : List ℕ
   extra = extendedBytes (r .extended)
 
-  same : recordOf (r .description) (length (r .points)) values (present (r .extended)) extra ≡ r
-  unfolding recordOf
-  same = λ i. record { description = r .description; points = row-points (size (stored (r .description))) (r .points) (valid-sizes 2 (stored (r .description)) (r .points) (valid .points)) i; extended = extended-same (r .extended) i }
+  same : recordIn order (r .description) (length (r .points)) values (present (r .extended)) extra ≡ r
+  unfolding recordIn
+  same = λ i. record { description = r .description; points = points-again (size (stored (r .description))) (r .points) (valid-sizes 2 (stored (r .description)) (r .points) (valid .points)) order i; extended = extended-same (r .extended) i }
 
   -- a record that was read passes every stage: writing it is never refused with 4, 11, 12, 13 or 14
-  pub read-passes : judgementOf (r .description) (length (r .points)) values (present (r .extended)) extra ≡ Passed
+  pub read-passes : judgementIn order (r .description) (length (r .points)) values (present (r .extended)) extra ≡ Passed
   read-passes =
-      passing (r .description) (length (r .points)) values (present (r .extended)) extra
+      passing order (r .description) (length (r .points)) values (present (r .extended)) extra
       (record {
         described = valid-passed 2 (r .description) (valid .description) .0;
         numbered = record {
           counted = valid .count;
-          fitting = row-fits 2 (stored (r .description)) (r .points) (valid .points);
+          fitting = laid-fits 2 (stored (r .description)) order (r .points) (valid .points);
           small = extended-small (r .extended) (valid .extended);
         };
       })
 
   -- and where there is room, its bytes are written as they stood
   pub read-written : (out : List ℕ) → n ≤ length out
-      → writeOf (r .description) (length (r .points)) values (present (r .extended)) extra out ≡ writing (written.Record n) (take n s ++ drop n out)
-  unfolding writeOf putWhere
+      → writeIn order (r .description) (length (r .points)) values (present (r .extended)) extra out ≡ writing (written.Record n) (take n s ++ drop n out)
+  unfolding writeIn putWhere
   read-written out room =
       let w = write-after-read s r n bytes e in
       let size : length (encode r) ≡ n = sym (ap length (w .1)) ∙ length-take-le n s (whole fullRecord s e .within) in

@@ -19,14 +19,15 @@ use Rattle.refusals.specs.declared.Judgement.the-variants.{Passed, Refused}
 use Rattle.channels.specs.declared.Description.{Description}
 use Rattle.points.specs.Points.{width, encodePoint}
 use Rattle.values.specs.Values as values
-use Rattle.values.specs.Values.{size, pointsOf}
-use Rattle.values.specs.OrderLaws.{points-many, fits-valid, fits-length}
-use Rattle.values.specs.declared.Order.the-variants.{Point}
+use Rattle.orders.specs.Orders.{size, pointsOf}
+use Rattle.orders.specs.OrderLaws.{points-many}
+use Rattle.values.specs.ValueLaws.{fits-valid, fits-length}
+use Rattle.orders.specs.declared.Order.{Order}
 use Rattle.descriptions.specs.Description.{encodeDescription}
 use Rattle.description_judging.specs.Judging as described
 use Rattle.description_judging.specs.JudgingLaws.{passed-valid}
 use Rattle.records.specs.Record.{identifierBytes, versionBytes, stored, openingByte, encodeExtended, encode, ValidExtended, Valid}
-use Rattle.record_writing.specs.Write.{recordOf, countStage, extendedStage, numbersJudged, judgementOf, writeOf, NumbersPass, Passes}
+use Rattle.record_writing.specs.Write.{recordIn, countStage, extendedStage, numbersJudged, judgementIn, writeIn, NumbersPass, Passes}
 use Rattle.record_writing.specs.Parts.{openingBytes, frontBytes, recordBytes, writeDescribed}
 
 -- ---- Small facts
@@ -50,22 +51,22 @@ opened false extended = refl
 
 -- ---- By the channels that are stored
 
-module _ (stored : List Bool) (count : ℕ) (numbers : List ℤ) (wanted : Bool) (extended : List ℕ) where
+module _ (order : Order) (stored : List Bool) (count : ℕ) (numbers : List ℤ) (wanted : Bool) (extended : List ℕ) where
   -- how long the bytes are
-  pub bytes-length : (described : List ℕ) → values.judgementOf 2 stored Point count numbers ≡ Passed
-      → length described + count * width 2 stored + length (encodeExtended (cond wanted (some extended) none)) + 13 ≡ length (recordBytes described stored count numbers wanted extended)
+  pub bytes-length : (described : List ℕ) → values.judgementOf 2 stored order count numbers ≡ Passed
+      → length described + count * width 2 stored + length (encodeExtended (cond wanted (some extended) none)) + 13 ≡ length (recordBytes order described stored count numbers wanted extended)
   unfolding recordBytes frontBytes openingBytes
-  bytes-length described e = sym (simp length-append (omega (arith, fits-length 2 stored Point count numbers e, length-digits 3 count)))
+  bytes-length described e = sym (simp length-append (omega (arith, fits-length 2 stored order count numbers e, length-digits 3 count)))
 
   not-long : (wanted : Bool) → (wanted && ltb 65535 (length extended)) ≡ false → T wanted → length extended < 65536
   not-long true e h = omega (arith, ltb-false 65535 (length extended) e)
   not-long false e h = absurd h
 
   -- what passes the stages behind the description's
-  pub numbers-pass : numbersJudged stored count numbers wanted extended ≡ Passed → NumbersPass stored count numbers wanted extended
+  pub numbers-pass : numbersJudged order stored count numbers wanted extended ≡ Passed → NumbersPass order stored count numbers wanted extended
   unfolding numbersJudged
   numbers-pass e =
-      let y = stages-passed (countStage count ∷ values.judgementOf 2 stored Point count numbers ∷ extendedStage wanted extended ∷ []) e in
+      let y = stages-passed (countStage count ∷ values.judgementOf 2 stored order count numbers ∷ extendedStage wanted extended ∷ []) e in
       record {
         counted = omega (arith, ltb-false 16777215 count (not-true _ (require-passed _ _ (y .0))));
         fitting = y .1 .0;
@@ -78,61 +79,61 @@ module _ (stored : List Bool) (count : ℕ) (numbers : List ℤ) (wanted : Bool)
     within : ltb 16777215 count ≡ false
     within = le-ltb 16777215 count (omega arith)
 
-    pub at-values : {refusal : Refusal} → values.judgementOf 2 stored Point count numbers ≡ Refused refusal → numbersJudged stored count numbers wanted extended ≡ Refused refusal
+    pub at-values : {refusal : Refusal} → values.judgementOf 2 stored order count numbers ≡ Refused refusal → numbersJudged order stored count numbers wanted extended ≡ Refused refusal
     unfolding numbersJudged orElse stages require
     at-values h = rw (within, h)
 
-    module _ (fit : values.judgementOf 2 stored Point count numbers ≡ Passed) where
-      pub at-extended : wanted ≡ true → 65535 < length extended → numbersJudged stored count numbers wanted extended ≡ Refused ExtendedSize
+    module _ (fit : values.judgementOf 2 stored order count numbers ≡ Passed) where
+      pub at-extended : wanted ≡ true → 65535 < length extended → numbersJudged order stored count numbers wanted extended ≡ Refused ExtendedSize
       unfolding numbersJudged orElse stages require
       at-extended e h = rw (within, fit, e, lt-ltb 65535 (length extended) h)
 
-      pub at-last : (T wanted → length extended < 65536) → numbersJudged stored count numbers wanted extended ≡ Passed
+      pub at-last : (T wanted → length extended < 65536) → numbersJudged order stored count numbers wanted extended ≡ Passed
       unfolding numbersJudged orElse stages require
       at-last h = rw (within, fit, fits-length-of wanted extended h)
 
-  pub at-count : 16777215 < count → numbersJudged stored count numbers wanted extended ≡ Refused (OutOfRange quantity.Count)
+  pub at-count : 16777215 < count → numbersJudged order stored count numbers wanted extended ≡ Refused (OutOfRange quantity.Count)
   unfolding numbersJudged orElse stages require
   at-count h = rw (lt-ltb 16777215 count h)
 
 -- ---- The record
 
-module _ (d : Description) (count : ℕ) (numbers : List ℤ) (wanted : Bool) (extended : List ℕ) where
+module _ (order : Order) (d : Description) (count : ℕ) (numbers : List ℤ) (wanted : Bool) (extended : List ℕ) where
   abbrev extra : Option (List ℕ)
   extra = cond wanted (some extended) none
 
   abbrev row : List ℕ
-  row = flatMap (encodePoint 2 (stored d)) (pointsOf Point count (size (stored d)) numbers)
+  row = flatMap (encodePoint 2 (stored d)) (pointsOf order count (size (stored d)) numbers)
 
   -- its bytes, part by part
-  pub in-parts : encode (recordOf d count numbers wanted extended) ≡ recordBytes (encodeDescription 2 d) (stored d) count numbers wanted extended
-  unfolding encode recordOf recordBytes frontBytes openingBytes
-  in-parts = rw (points-many Point count (size (stored d)) numbers, opened wanted extended)
+  pub in-parts : encode (recordIn order d count numbers wanted extended) ≡ recordBytes order (encodeDescription 2 d) (stored d) count numbers wanted extended
+  unfolding encode recordIn recordBytes frontBytes openingBytes
+  in-parts = rw (points-many order count (size (stored d)) numbers, opened wanted extended)
       (regroup identifierBytes versionBytes (encodeDescription 2 d) (0x00 ∷ []) (cond wanted 0x80 0x00 ∷ []) (digits 3 count) row (encodeExtended extra))
 
   -- what becomes of it, once its description was put aside
   pub described-written : (out : List ℕ) {bytes : List ℕ} {flags : List Bool} → described.judgementOf 2 d ≡ Passed → bytes ≡ encodeDescription 2 d → flags ≡ stored d
-      → writeDescribed bytes flags count numbers wanted extended out ≡ writeOf d count numbers wanted extended out
-  unfolding writeOf writeDescribed judgementOf orElse
+      → writeDescribed order bytes flags count numbers wanted extended out ≡ writeIn order d count numbers wanted extended out
+  unfolding writeIn writeDescribed judgementIn orElse
   described-written out e b f = rw (b, f) (sym (rw (e, in-parts)))
 
   -- it is valid
-  pub passes-valid : Passes d count numbers wanted extended → length (d .channels) ≡ 16 → Bytes extended → Valid (recordOf d count numbers wanted extended)
-  unfolding recordOf
+  pub passes-valid : Passes order d count numbers wanted extended → length (d .channels) ≡ 16 → Bytes extended → Valid (recordIn order d count numbers wanted extended)
+  unfolding recordIn
   passes-valid p h g = record {
     description = passed-valid 2 d (p .described) h;
-    count = omega (arith, points-many Point count (size (stored d)) numbers, p .numbered .counted);
-    points = fits-valid 2 (stored d) Point count numbers (p .numbered .fitting) .1;
+    count = omega (arith, points-many order count (size (stored d)) numbers, p .numbered .counted);
+    points = fits-valid 2 (stored d) order count numbers (p .numbered .fitting) .1;
     extended = extended-valid wanted extended (p .numbered .small) g;
   }
 
   -- what passes every stage, and the other way round
-  pub passes : judgementOf d count numbers wanted extended ≡ Passed → Passes d count numbers wanted extended
-  unfolding judgementOf
+  pub passes : judgementIn order d count numbers wanted extended ≡ Passed → Passes order d count numbers wanted extended
+  unfolding judgementIn
   passes e =
-      let x = or-else-passed (described.judgementOf 2 d) (numbersJudged (stored d) count numbers wanted extended) e in
-      record { described = x .0; numbered = numbers-pass (stored d) count numbers wanted extended (x .1) }
+      let x = or-else-passed (described.judgementOf 2 d) (numbersJudged order (stored d) count numbers wanted extended) e in
+      record { described = x .0; numbered = numbers-pass order (stored d) count numbers wanted extended (x .1) }
 
-  pub passing : Passes d count numbers wanted extended → judgementOf d count numbers wanted extended ≡ Passed
-  unfolding judgementOf orElse
-  passing p = rw (p .described) (at-last (stored d) count numbers wanted extended (p .numbered .counted) (p .numbered .fitting) (p .numbered .small))
+  pub passing : Passes order d count numbers wanted extended → judgementIn order d count numbers wanted extended ≡ Passed
+  unfolding judgementIn orElse
+  passing p = rw (p .described) (at-last order (stored d) count numbers wanted extended (p .numbered .counted) (p .numbered .fitting) (p .numbered .small))

@@ -1,10 +1,10 @@
 // Full records of ISO/IEC 19794-7:2007 (clause 7) that are to be written: the stages that keep one from being written, and its bytes.
 use channels::Description;
 use channels::Format;
+use orders::Order;
 use refusals::Judgement;
 use refusals::Quantity;
 use refusals::Refusal;
-use values::Order;
 ghost use mathlib.Core.Path.{_≡_};
 ghost use mathlib.Core.Bool.{cond};
 ghost use mathlib.Core.Option.{some, none};
@@ -18,7 +18,7 @@ ghost use Rattle.channels.specs.Descriptors.{isStored};
 ghost use Rattle.descriptions.specs.Description.{description};
 ghost use Rattle.refusals.specs.declared.Judgement.the-variants.{Passed};
 ghost use Rattle.records.specs.Record.{encodeExtended};
-ghost use Rattle.record_writing.specs.Write.{numbersJudged, NumbersPass, writeOf};
+ghost use Rattle.record_writing.specs.Write.{numbersJudged, NumbersPass, writeIn, writeOf, writeColumnsOf};
 ghost use Rattle.record_writing.specs.Parts.{openingBytes, frontBytes, recordBytes, writeDescribed};
 
 // Which channels a sample point holds a number of.
@@ -94,19 +94,20 @@ fn record_size(described: usize, width: usize, count: usize, wanted: bool, exten
 // The stages behind the description's: the count, the amount of values and the values, the extended data.
 fn judge_values(
     stored: [bool; 16],
+    order: Order,
     count: usize,
     values: &[i32],
     wanted: bool,
     extended: &[u8],
 ) -> Judgement
-    ensures { λ r. ⌜ r ≡ numbersJudged stored count (now (values .entry)) wanted (now (extended .entry)) ⌝ }
+    ensures { λ r. ⌜ r ≡ numbersJudged order stored count (now (values .entry)) wanted (now (extended .entry)) ⌝ }
 {
     if 16777215 < count {
         return Judgement::Refused(Refusal::OutOfRange {
             quantity: Quantity::Count,
         });
     }
-    let judged = values::judge(values, count, Format::Full, stored, Order::Point);
+    let judged = values::judge(values, count, Format::Full, stored, order);
     if let Judgement::Refused(_) = judged {
         return judged;
     }
@@ -123,16 +124,17 @@ fn put_record(
     out: &mut [u8],
     described: &[u8],
     stored: [bool; 16],
+    order: Order,
     count: usize,
     values: &[i32],
     wanted: bool,
     extended: &[u8],
 ) -> usize
-    requires { ⌜ NumbersPass stored count (now values) wanted (now extended) × Room (now out) 0 (recordBytes (now described) stored count (now values) wanted (now extended)) ⌝ }
-    ensures { λ r. ⌜ Laid (now (out .entry)) 0 (recordBytes (now (described .entry)) stored count (now (values .entry)) wanted (now (extended .entry))) (now (out .exit)) r ⌝ }
+    requires { ⌜ NumbersPass order stored count (now values) wanted (now extended) × Room (now out) 0 (recordBytes order (now described) stored count (now values) wanted (now extended)) ⌝ }
+    ensures { λ r. ⌜ Laid (now (out .entry)) 0 (recordBytes order (now (described .entry)) stored count (now (values .entry)) wanted (now (extended .entry))) (now (out .exit)) r ⌝ }
 {
     let at = put_front(out, described, wanted, count);
-    let at = values::put(out, at, values, count, Format::Full, stored, Order::Point);
+    let at = values::put(out, at, values, count, Format::Full, stored, order);
     put_extension(out, at, wanted, extended)
 }
 
@@ -141,6 +143,7 @@ fn put_record(
 fn write_described(
     described: &[u8],
     stored: [bool; 16],
+    order: Order,
     count: usize,
     values: &[i32],
     wanted: bool,
@@ -148,9 +151,9 @@ fn write_described(
     out: &mut [u8],
 ) -> Written
     requires { ⌜ length (now described) ≤ 178 ⌝ }
-    ensures { λ r. ⌜ writing r (now (out .exit)) ≡ writeDescribed (now (described .entry)) stored count (now (values .entry)) wanted (now (extended .entry)) (now (out .entry)) ⌝ }
+    ensures { λ r. ⌜ writing r (now (out .exit)) ≡ writeDescribed order (now (described .entry)) stored count (now (values .entry)) wanted (now (extended .entry)) (now (out .entry)) ⌝ }
 {
-    let judged = judge_values(stored, count, values, wanted, extended);
+    let judged = judge_values(stored, order, count, values, wanted, extended);
     if let Judgement::Refused(refusal) = judged {
         return Written::Refused(refusal);
     }
@@ -159,13 +162,54 @@ fn write_described(
     if out.len() < length {
         return Written::Refused(Refusal::Room);
     }
-    put_record(out, described, stored, count, values, wanted, extended);
+    put_record(
+        out,
+        described,
+        stored,
+        order,
+        count,
+        values,
+        wanted,
+        extended,
+    );
     Written::Record { length: length }
 }
 
-// A record is written from a description, a count, values in stored order and, where they are wanted, extended data.
+// A record is written from a description, a count, values in stored order, point by point or column by column, and, where they are wanted, extended data.
 // On a refusal the output is as it was; on success only its first bytes change.
 // The description is put aside first, which judges it: so it is judged once.
+fn write_in(
+    order: Order,
+    description: Description,
+    count: usize,
+    values: &[i32],
+    wanted: bool,
+    extended: &[u8],
+    out: &mut [u8],
+) -> Written
+    ensures { λ r. ⌜ writing r (now (out .exit)) ≡ writeIn order description count (now (values .entry)) wanted (now (extended .entry)) (now (out .entry)) ⌝ }
+{
+    let mut room: [u8; 178] = [0; 178]; // two inclusion bytes, and eleven for each of sixteen channels
+    match description_writing::put(&mut room, 0, description, Format::Full) {
+        description_writing::Written::Done(end) => {
+            let described = &room[0..end];
+            let stored = stored_channels(description);
+            write_described(
+                described,
+                stored,
+                order,
+                count,
+                values,
+                wanted,
+                extended,
+                out,
+            )
+        }
+        description_writing::Written::Refused(refusal) => Written::Refused(refusal),
+    }
+}
+
+// From values point by point.
 pub fn write(
     description: Description,
     count: usize,
@@ -176,13 +220,35 @@ pub fn write(
 ) -> Written
     ensures { λ r. ⌜ writing r (now (out .exit)) ≡ writeOf description count (now (values .entry)) wanted (now (extended .entry)) (now (out .entry)) ⌝ }
 {
-    let mut room: [u8; 178] = [0; 178]; // two inclusion bytes, and eleven for each of sixteen channels
-    match description_writing::put(&mut room, 0, description, Format::Full) {
-        description_writing::Written::Done(end) => {
-            let described = &room[0..end];
-            let stored = stored_channels(description);
-            write_described(described, stored, count, values, wanted, extended, out)
-        }
-        description_writing::Written::Refused(refusal) => Written::Refused(refusal),
-    }
+    write_in(
+        Order::Point,
+        description,
+        count,
+        values,
+        wanted,
+        extended,
+        out,
+    )
+}
+
+// From values column by column (request L9). They are judged in point order all the same.
+pub fn write_columns(
+    description: Description,
+    count: usize,
+    values: &[i32],
+    wanted: bool,
+    extended: &[u8],
+    out: &mut [u8],
+) -> Written
+    ensures { λ r. ⌜ writing r (now (out .exit)) ≡ writeColumnsOf description count (now (values .entry)) wanted (now (extended .entry)) (now (out .entry)) ⌝ }
+{
+    write_in(
+        Order::Column,
+        description,
+        count,
+        values,
+        wanted,
+        extended,
+        out,
+    )
 }

@@ -3,10 +3,14 @@ use mathlib.Core.Path.{_≡_}
 use Prim.Native.Nat.{ℕ}
 use lib.IntN.{ℤ}
 use Rattle.formats.specs.OneAnswer.{OneAnswer, named}
-use Rattle.tip_switch.specs.Switch.{stateIf, byteIf}
+use Rattle.tip_switch.specs.Switch.{stateOf, stateIf, byteIf}
 
-pub one-state : (byte : ℕ) → OneAnswer (λ r. r ≡ stateIf byte)
-one-state byte = named
+module _ (byte : ℕ) where
+  pub one-state : OneAnswer (λ r. r ≡ stateOf byte)
+  one-state = named
+
+  pub one-switch : OneAnswer (λ r. r ≡ stateIf byte)
+  one-switch = named
 
 pub one-byte : (state : ℤ) → OneAnswer (λ r. r ≡ byteIf state)
 one-byte state = named

@@ -26,11 +26,15 @@ use Rattle.channels.specs.Stored.{fits, storedOf, storedIf}
 use Rattle.tip_switch.specs.Switch.{isState, byteOf, byteIf}
 use Rattle.channels.specs.declared.Stored.the-variants.{Number, Outside}
 use Rattle.points.specs.Points.{storedFrom, channels, fitsSample, width}
-use Rattle.values.specs.Values.{size, step, stride, numbersFrom, pointsFrom, pointsOf, samplesIn, samplesFrom, samples, judgementOf, storedSample, sampleBytes, bytesOf, putOf}
-use Rattle.values.specs.OrderLaws.{points-bytes}
-use Rattle.values.specs.Parts.{AllAt, Inside, pointBytes, pointsBytes, many, bytesLeft}
-use Rattle.values.specs.declared.Order.{Order}
-use Rattle.values.specs.declared.Order.the-variants.{Point, Column}
+use Rattle.orders.specs.Orders.{size, step, stride, numbersFrom, pointsFrom, pointsOf}
+use Rattle.orders.specs.OrderLaws.{index-within, step-within}
+use Rattle.orders.specs.Parts.{many, AllAt}
+use Rattle.orders.proofs.Left.{many-out, many-in}
+use Rattle.values.specs.Values.{samplesIn, samplesFrom, samples, judgementOf, storedSample, sampleBytes, bytesOf, putOf}
+use Rattle.values.specs.ValueLaws.{points-bytes}
+use Rattle.values.specs.Parts.{Inside, pointBytes, pointsBytes, bytesLeft}
+use Rattle.orders.specs.declared.Order.{Order}
+use Rattle.orders.specs.declared.Order.the-variants.{Point, Column}
 use Rattle.points.proofs.Samples.{stored-in, stored-out, stored-none}
 
 -- ---- One number
@@ -77,19 +81,12 @@ module _ (P : ℕ → Type 0) (d k m from : ℕ) (all : AllAt P d k from) (e : k
 -- the numbers of as many points as the amount says are among the values
 module _ (count k : ℕ) (values : List ℤ) (amount : length values ≡ count * k) where
   pub points-inside : (order : Order) → AllAt (Inside values (stride order count) k) (step order k) count 0
-  unfolding step stride
-  points-inside Point i h r g = omega (arith, amount, mul-le-mul-right {m = suc i} {n = count} k (omega arith))
-  points-inside Column i h r g = omega (arith, amount, mul-comm count k, mul-le-mul-right {m = suc r} {n = k} count (omega arith))
+  points-inside order i h r g = omega (arith, amount, index-within count k i r h g order)
 
   pub stride-within : (order : Order) → 0 < k → stride order count ≤ length values + 1
   unfolding stride
   stride-within Point h = omega arith
   stride-within Column h = omega (arith, amount, mul-comm count k, mul-le-mul-right {m = 1} {n = k} count (omega arith))
-
-pub step-within : (k : ℕ) → 0 < k → k ≤ 16 → (order : Order) → step order k ≤ 16
-unfolding step
-step-within k g h Point = h
-step-within k g h Column = omega arith
 
 -- so a step p and a stride d may be taken
 pub record Ready (values : List ℤ) (k count p d : ℕ) : Type 0 where
@@ -102,24 +99,9 @@ pub ready : (values : List ℤ) (order : Order) (count k n : ℕ) → eqb (lengt
 ready values order count k n e same some small x y =
     let a = eqb-true (length values) (count * k) e in
     let q : 0 < k = omega arith in
-    rw (x, y, same) (record { stride = stride-within count k values a order q; step = step-within k q (omega arith) order; some = q; inside = points-inside count k values a order })
+    rw (x, y, same) (record { stride = stride-within count k values a order q; step = step-within k q (omega arith) order .1; some = q; inside = points-inside count k values a order })
 
 -- ---- A point: the channels from i on, and the numbers from an index on
-
--- how many are left
-module _ (stored : List Bool) where
-  module _ (i : ℕ) (h : i < length stored) where
-    pub many-out : getD stored i false ≡ false → many stored i ≡ many stored (i + 1)
-    unfolding many
-    many-out e = rw (stored-out stored i h e)
-
-    pub many-in : getD stored i false ≡ true → many stored i ≡ 1 + many stored (i + 1)
-    unfolding many
-    many-in e = rw (stored-in stored i h e) (omega arith)
-
-  pub many-none : (i : ℕ) → length stored ≤ i → many stored i ≡ 0
-  unfolding many
-  many-none i h = rw (stored-none stored i h)
 
 -- they are among the values, and stay so: a channel that isn't stored takes none, and one that is takes the first
 module _ (values : List ℤ) (d : ℕ) (stored : List Bool) (i at : ℕ) (h : i < length stored) (all : Inside values d (many stored i) at) where

@@ -2,17 +2,14 @@
 use mathlib.Core.Path.{_≡_}
 use mathlib.Core.Bool.{Bool}
 use mathlib.Core.List.{List}
-use Prim.Native.Nat.{ℕ, _≤_}
+use Prim.Native.Nat.{ℕ}
 use lib.IntN.{ℤ}
 use Rattle.formats.specs.OneAnswer.{OneAnswer, named}
 use Rattle.formats.specs.Lent.{Writing, writing}
 use Rattle.channels.specs.Channel.{widthOf}
 use Rattle.channels.specs.declared.Format.{Format}
-use Rattle.values.specs.Values.{size, judgementOf, putOf}
-use Rattle.values.specs.declared.Order.{Order}
-
-pub one-size : (stored : List Bool) → OneAnswer (λ r. (r ≡ size stored) × (r ≤ 16))
-one-size stored r q e g = named r q (e .0) (g .0)
+use Rattle.values.specs.Values.{judgementOf, putOf}
+use Rattle.orders.specs.declared.Order.{Order}
 
 module _ (values : List ℤ) (count : ℕ) (format : Format) (stored : List Bool) (order : Order) where
   pub one-judged : OneAnswer (λ r. r ≡ judgementOf (widthOf format) stored order count values)

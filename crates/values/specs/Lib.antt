@@ -1,6 +1,9 @@
--- `Values`: the values of points as a writer is lent them, and what is done with them. `OrderLaws`: values in point order and by column are the same points.
+-- `Values`: whether values of points fit, and what is put of them. `ValueLaws`: those that fit are valid points, and what is put is their encoding.
+-- `BothOrders`: what it means that both orders are judged the same. `BothOrderLaws` shows it.
 -- `Answers`: no public function has a second answer. `Parts` says what private functions answer.
 pub mod Values
-pub mod OrderLaws
+pub mod ValueLaws
+pub mod BothOrders
+pub mod BothOrderLaws
 pub mod Parts
 pub mod Answers

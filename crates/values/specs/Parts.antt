@@ -1,16 +1,14 @@
 -- What private functions answer: the numbers of a point among the values, and the bytes of a point and of many.
 use mathlib.Core.Bool.{Bool}
 use mathlib.Core.List.{List, flatMap}
-use Prim.Native.Nat.{ℕ, _+_, _*_, _<_}
+use Prim.Native.Nat.{ℕ, _<_}
 use lib.IntN.{ℤ}
 use lib.ListN.{length, drop}
 use Rattle.formats.specs.Writes.{encodeEach}
 use Rattle.points.specs.Points.{storedFrom}
-use Rattle.values.specs.Values.{numbersFrom, pointsFrom, sampleBytes}
-
--- what holds at k indices, from one on, a stride apart
-abbrev pub AllAt : (ℕ → Type 0) → (stride k from : ℕ) → Type 0
-AllAt P stride k from = (r : ℕ) → r < k → P (from + r * stride)
+use Rattle.orders.specs.Orders.{numbersFrom, pointsFrom}
+use Rattle.orders.specs.Parts.{AllAt}
+use Rattle.values.specs.Values.{sampleBytes}
 
 -- the k numbers of a point are among the values
 abbrev pub Inside : List ℤ → (stride k from : ℕ) → Type 0
@@ -23,9 +21,6 @@ pointBytes w stride l values from = encodeEach (sampleBytes w) l (numbersFrom va
 unfoldable pub pointsBytes : (w stride : ℕ) → List ℕ → List ℤ → (step n from : ℕ) → List ℕ
 pointsBytes w stride l values step n from = flatMap (encodeEach (sampleBytes w) l) (pointsFrom values stride (length l) step n from)
 
--- of a point's channels from the ith on: how many are stored, and the bytes of their numbers
-unfoldable pub many : List Bool → (i : ℕ) → ℕ
-many stored i = length (storedFrom i (drop i stored))
-
+-- the bytes of a point's numbers, those of its channels from the ith on
 unfoldable pub bytesLeft : (w stride : ℕ) → List Bool → List ℤ → (i from : ℕ) → List ℕ
 bytesLeft w stride stored values i from = pointBytes w stride (storedFrom i (drop i stored)) values from

@@ -1,4 +1,4 @@
--- The values of many points as a writer is lent them, in one of two orders, and what is done with them.
+-- The values of many points as a writer is lent them, in one of two orders: whether they fit, and what is put.
 use mathlib.Core.Bool.{Bool, cond, _&&_}
 use mathlib.Core.List.{List, [], _∷_, _++_, flatMap}
 use Prim.Native.Nat.{ℕ, zero, suc, _+_, _*_}
@@ -20,42 +20,8 @@ use Rattle.tip_switch.specs.Switch.{byteIf}
 use Rattle.channels.specs.declared.Stored.{Stored}
 use Rattle.channels.specs.declared.Stored.the-variants.{Number, Outside}
 use Rattle.points.specs.Points.{channels, sampleSize, width, fitsSample}
-use Rattle.values.specs.declared.Order.{Order}
-use Rattle.values.specs.declared.Order.the-variants.{Point, Column}
-
--- ---- The two orders
-
--- how many numbers a point has
-abbrev pub size : List Bool → ℕ
-size stored = length (channels stored)
-
--- how far it is from a number to that of the next point, and to that of the next stored channel, where a point has k numbers:
--- in point order the numbers of a point stand side by side, by column those of a channel do
-unfoldable pub step : Order → (k : ℕ) → ℕ
-step Point k = k
-step Column k = 1
-
-unfoldable pub stride : Order → (count : ℕ) → ℕ
-stride Point count = 1
-stride Column count = count
-
--- so the number of point i and the rth stored channel has this index among the values
-abbrev pub index : Order → (count k i r : ℕ) → ℕ
-index order count k i r = i * step order k + r * stride order count
-
--- ---- The points that the values are
-
--- k numbers from an index on, a stride apart; and n points of them, a step apart
-unfoldable pub numbersFrom : List ℤ → (stride k from : ℕ) → List ℤ
-numbersFrom values stride zero from = []
-numbersFrom values stride (suc k) from = getD values from (pos 0) ∷ numbersFrom values stride k (from + stride)
-
-unfoldable pub pointsFrom : List ℤ → (stride k step n from : ℕ) → List (List ℤ)
-pointsFrom values stride k step zero from = []
-pointsFrom values stride k step (suc n) from = numbersFrom values stride k from ∷ pointsFrom values stride k step n (from + step)
-
-unfoldable pub pointsOf : Order → (count k : ℕ) → List ℤ → List (List ℤ)
-pointsOf order count k values = pointsFrom values (stride order count) k (step order k) count 0
+use Rattle.orders.specs.Orders.{size, step, stride, pointsOf}
+use Rattle.orders.specs.declared.Order.{Order}
 
 -- ---- Whether they fit: whichever the order they are lent in, they are judged in point order
 

@@ -1,72 +1,22 @@
 // Values of sample points as a writer is lent them, point by point or column by column: whether they fit, and their bytes.
 use channels::Format;
 use channels::Stored;
+use orders::Order;
 use refusals::Judgement;
 use refusals::Quantity;
 use refusals::Refusal;
 ghost use mathlib.Core.Path.{_≡_};
-ghost use Prim.Native.Nat.{_+_, _*_, _≤_, _<_};
-ghost use lib.Dec.{eqb};
+ghost use Prim.Native.Nat.{_+_, _≤_, _<_};
 ghost use lib.ListN.{length};
 ghost use Rattle.formats.specs.Laid.{Room, Laid, Owed};
 ghost use Rattle.formats.specs.Lent.{writing};
 ghost use Rattle.channels.specs.Channel.{widthOf};
 ghost use Rattle.points.specs.Points.{sampleSize, channels as channelsOf};
-ghost use Rattle.values.specs.Values as lent;
+ghost use Rattle.orders.specs.Orders.{size};
+ghost use Rattle.orders.specs.Parts.{many, AllAt};
 ghost use Rattle.refusals.specs.Ranges.{firstMisfit};
 ghost use Rattle.values.specs.Values.{samplesIn, samplesFrom, judgementOf, storedSample, numberIn, sampleBytes, putOf};
-ghost use Rattle.values.specs.Parts.{AllAt, Inside, pointBytes, pointsBytes, many, bytesLeft};
-
-// How the values of points are lent: a point after the other, or a stored channel after the other.
-pub enum Order {
-    Point,
-    Column,
-}
-
-// How many numbers a sample point holds.
-pub fn size(stored: [bool; 16]) -> usize
-    ensures { λ r. ⌜ (r ≡ lent.size stored) × (r ≤ 16) ⌝ }
-{
-    let mut n: usize = 0;
-    let mut i: usize = 0;
-    while i < 16 {
-        if stored[i] {
-            n += 1;
-        }
-        i += 1;
-    }
-    n
-}
-
-// Whether values are as many as points of some size have.
-fn has_amount(values: &[i32], count: usize, size: usize) -> bool
-    ensures { λ r. ⌜ r ≡ eqb (length (now (values .entry))) (count * size) ⌝ }
-{
-    if !formats::is_within(count, size, values.len()) {
-        return false;
-    }
-    values.len() == count * size
-}
-
-// How far it is from a number to that of the next point.
-fn step_of(order: Order, size: usize) -> usize
-    ensures { λ r. ⌜ r ≡ lent.step order size ⌝ }
-{
-    match order {
-        Order::Point => size,
-        Order::Column => 1,
-    }
-}
-
-// How far it is from a number to that of the next stored channel.
-fn stride_of(order: Order, count: usize) -> usize
-    ensures { λ r. ⌜ r ≡ lent.stride order count ⌝ }
-{
-    match order {
-        Order::Point => 1,
-        Order::Column => count,
-    }
-}
+ghost use Rattle.values.specs.Parts.{Inside, pointBytes, pointsBytes, bytesLeft};
 
 // What is stored for a number of a channel, if anything is.
 fn stored_sample(format: Format, channel: usize, value: i32) -> Stored
@@ -87,7 +37,7 @@ fn judge_point(
     format: Format,
     stored: &[bool; 16],
 ) -> Judgement
-    requires { ⌜ (length (now stored) ≡ 16) × (stride ≤ length (now values) + 1) × Inside (now values) stride (lent.size (now stored)) from ⌝ }
+    requires { ⌜ (length (now stored) ≡ 16) × (stride ≤ length (now values) + 1) × Inside (now values) stride (size (now stored)) from ⌝ }
     ensures { λ r. ⌜ r ≡ firstMisfit (samplesIn (widthOf format) stride (channelsOf (now (stored .entry))) (now (values .entry)) from) ⌝ }
 {
     let mut index = from;
@@ -122,7 +72,7 @@ fn judge_from(
     format: Format,
     stored: &[bool; 16],
 ) -> Judgement
-    requires { ⌜ (length (now stored) ≡ 16) × (stride ≤ length (now values) + 1) × (step ≤ 16) × (0 < lent.size (now stored)) × AllAt (Inside (now values) stride (lent.size (now stored))) step count 0 ⌝ }
+    requires { ⌜ (length (now stored) ≡ 16) × (stride ≤ length (now values) + 1) × (step ≤ 16) × (0 < size (now stored)) × AllAt (Inside (now values) stride (size (now stored))) step count 0 ⌝ }
     ensures { λ r. ⌜ r ≡ firstMisfit (samplesFrom (widthOf format) stride (channelsOf (now (stored .entry))) (now (values .entry)) step count 0) ⌝ }
 {
     let mut from: usize = 0;
@@ -148,15 +98,15 @@ pub fn judge(
 ) -> Judgement
     ensures { λ r. ⌜ r ≡ judgementOf (widthOf format) stored order count (now (values .entry)) ⌝ }
 {
-    let k = size(stored);
-    if !has_amount(values, count, k) {
+    let k = orders::size(stored);
+    if !orders::is_amount(values.len(), count, k) {
         return Judgement::Refused(Refusal::Amount);
     }
     if k == 0 {
         return Judgement::Passed;
     }
-    let step = step_of(order, k);
-    let stride = stride_of(order, count);
+    let step = orders::step(order, k);
+    let stride = orders::stride(order, count);
     judge_from(values, count, step, stride, format, &stored)
 }
 
@@ -242,7 +192,7 @@ fn put_point(
     format: Format,
     stored: &[bool; 16],
 ) -> usize
-    requires { ⌜ (length (now stored) ≡ 16) × (stride ≤ length (now values) + 1) × Inside (now values) stride (lent.size (now stored)) from × Room (now out) start (pointBytes (widthOf format) stride (channelsOf (now stored)) (now values) from) ⌝ }
+    requires { ⌜ (length (now stored) ≡ 16) × (stride ≤ length (now values) + 1) × Inside (now values) stride (size (now stored)) from × Room (now out) start (pointBytes (widthOf format) stride (channelsOf (now stored)) (now values) from) ⌝ }
     ensures { λ r. ⌜ Laid (now (out .entry)) start (pointBytes (widthOf format) stride (channelsOf (now (stored .entry))) (now (values .entry)) from) (now (out .exit)) r ⌝ }
 {
     let before = put_run(
@@ -292,7 +242,7 @@ fn put_from(
     format: Format,
     stored: &[bool; 16],
 ) -> usize
-    requires { ⌜ (length (now stored) ≡ 16) × (stride ≤ length (now values) + 1) × (step ≤ 16) × (0 < lent.size (now stored)) × AllAt (Inside (now values) stride (lent.size (now stored))) step count 0 × Room (now out) start (pointsBytes (widthOf format) stride (channelsOf (now stored)) (now values) step count 0) ⌝ }
+    requires { ⌜ (length (now stored) ≡ 16) × (stride ≤ length (now values) + 1) × (step ≤ 16) × (0 < size (now stored)) × AllAt (Inside (now values) stride (size (now stored))) step count 0 × Room (now out) start (pointsBytes (widthOf format) stride (channelsOf (now stored)) (now values) step count 0) ⌝ }
     ensures { λ r. ⌜ Laid (now (out .entry)) start (pointsBytes (widthOf format) stride (channelsOf (now (stored .entry))) (now (values .entry)) step count 0) (now (out .exit)) r ⌝ }
 {
     let mut at = start;
@@ -319,8 +269,8 @@ pub fn put(
 ) -> usize
     ensures { λ r. ⌜ writing r (now (out .exit)) ≡ putOf (widthOf format) stored order count (now (values .entry)) (now (out .entry)) at ⌝ }
 {
-    let k = size(stored);
-    if !has_amount(values, count, k) {
+    let k = orders::size(stored);
+    if !orders::is_amount(values.len(), count, k) {
         return at;
     }
     if out.len() < at {
@@ -333,7 +283,7 @@ pub fn put(
     if k == 0 {
         return at;
     }
-    let step = step_of(order, k);
-    let stride = stride_of(order, count);
+    let step = orders::step(order, k);
+    let stride = orders::stride(order, count);
     put_from(out, at, values, count, step, stride, format, &stored)
 }

@@ -4,6 +4,8 @@ use answers::Answer;
 use channels::Description;
 use fields::Template;
 use fields::Wanted;
+use orders::Order;
+use record_writing::Written;
 
 // The first of some values.
 fn first<'a>(values: &'a [i32; 131072], count: usize) -> &'a [i32] {
@@ -19,8 +21,8 @@ fn extended_data<'a>(space: &'a [u8; 131072], count: usize) -> &'a [u8] {
     words::part(space, 0, count)
 }
 
-// What `record_at` reads, and channels.
-pub fn write(text: &mut [u8; 65536], used: u16, line: &[u8], at: usize) -> u16 {
+// What `record_at` reads, and channels. The values stand in either order.
+pub fn write(text: &mut [u8; 65536], used: u16, line: &[u8], at: usize, order: Order) -> u16 {
     let mut values = [0; 131072];
     let mut space = [0; 131072];
     let wanted = fields::record_at(line, at, &mut values, &mut space);
@@ -35,6 +37,7 @@ pub fn write(text: &mut [u8; 65536], used: u16, line: &[u8], at: usize) -> u16 {
         wanted,
         first(&values, wanted.given),
         extended_data(&space, wanted.lent),
+        order,
     )
 }
 
@@ -45,30 +48,49 @@ fn write_record(
     wanted: Wanted,
     values: &[i32],
     extended: &[u8],
+    order: Order,
 ) -> u16
     requires { ⌜ wanted .room ≤ 131072 ⌝ }
 {
     let mut out = [170; 131072];
     let room = wanted.room;
-    let written = record_writing::write(
+    let written = ask(
         description,
-        wanted.count,
+        wanted,
         values,
-        wanted.extended,
         extended,
+        order,
         &mut out[0..room],
     );
     put(text, used, of_written(written), &out, room)
+}
+
+fn ask(
+    description: Description,
+    wanted: Wanted,
+    values: &[i32],
+    extended: &[u8],
+    order: Order,
+    out: &mut [u8],
+) -> Written {
+    let count = wanted.count;
+    let asked = wanted.extended;
+    match order {
+        Order::Point => record_writing::write(description, count, values, asked, extended, out),
+        Order::Column => {
+            record_writing::write_columns(description, count, values, asked, extended, out)
+        }
+    }
 }
 
 fn done(length: usize) -> Answer {
     answers::plain(answers::WRITTEN, 1, length as u64)
 }
 
-fn of_written(written: record_writing::Written) -> Answer {
+fn of_written(written: Written) -> Answer {
     match written {
-        record_writing::Written::Record { length } => done(length),
-        record_writing::Written::Refused(refusal) => answers::of_refusal(refusal),
+        Written::Record { length } => done(length),
+        Written::Refused(refusal) => answers::of_refusal(refusal),
     }
 }
 

@@ -1,6 +1,7 @@
 //! Lines that cannot be read, lines spelled oddly, and the ends of lines and inputs.
 
 use crate::answers::LONGEST_LINE;
+use crate::columns_examples::COLUMNS_UNREADABLE;
 use crate::compare::Comparison;
 use crate::examples::UNREADABLE;
 use crate::inputs;
@@ -14,7 +15,7 @@ const SPELLED: &str = "lines spelled oddly";
 const INPUTS: &str = "whole inputs: long lines, last lines, empty lines";
 
 pub fn ask_all(comparison: &mut Comparison, random: &mut Random) {
-    for (line, answer) in UNREADABLE {
+    for (line, answer) in UNREADABLE.iter().chain(COLUMNS_UNREADABLE) {
         comparison.ask_typed(TYPED, line, answer);
     }
     limits(comparison);
@@ -24,7 +25,7 @@ pub fn ask_all(comparison: &mut Comparison, random: &mut Random) {
     random_inputs(comparison, random);
 }
 
-/// The longest line and one longer, and the greatest room.
+/// The longest line and one longer, the greatest room and the greatest amount.
 fn limits(comparison: &mut Comparison) {
     let long = "cannot read: a line has at most 262144 bytes";
     for (length, answer) in [(262_144, "absent"), (262_145, long)] {
@@ -36,16 +37,19 @@ fn limits(comparison: &mut Comparison) {
     comparison.ask_typed(TYPED, "write 0 - ! 131072", &answer);
     let answer = format!("written 2 B100{untouched}");
     comparison.ask_typed(TYPED, "write-template ! 131072 !", &answer);
+    let lent = ",99999".repeat(131_072);
+    let answer = format!("refused 2 1 {}", &lent[1..]);
+    comparison.ask_typed(TYPED, "columns-in 131072 53 45", &answer);
 }
 
-/// A short question of any of the twelve sorts.
+/// A short question of any of the fifteen sorts.
 fn any_question(random: &mut Random) -> String {
     let parts = inputs::small_parts(random);
     let bytes = inputs::bytes(&parts);
     let template = inputs::template(random);
     let room = random.below(40);
     let index = random.between(0, 3);
-    match random.below(13) {
+    match random.below(16) {
         0 => questions::of_bytes("judge", &bytes),
         1 => questions::of_bytes("whole", &bytes),
         2 => questions::of_bytes("extended", &bytes),
@@ -62,6 +66,13 @@ fn any_question(random: &mut Random) -> String {
             index * 500
         ),
         11 => questions::look_up(index, &bytes),
+        12 => questions::of_bytes("columns", &bytes),
+        13 => {
+            let right = parts.values.len();
+            let amount = random.pick(&[right, right + 1, room]);
+            questions::columns_in(amount, &bytes)
+        }
+        14 => questions::write_columns(&inputs::in_columns(&parts), bytes.len()),
         _ => any_place(random, template),
     }
 }

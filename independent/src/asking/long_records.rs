@@ -193,8 +193,12 @@ fn points_of_one_byte(comparison: &mut Comparison) {
     typed(&format!("look-up 100000 {bytes}"), beyond);
     let short = "refused 1 looked 18";
     typed(&format!("look-up 99999 {cut}"), short);
+    let column = format!("{}{}", "0,".repeat(65536), "1,".repeat(100_000 - 65536));
+    let answer = format!("columns {}", column.trim_end_matches(','));
+    typed(&format!("columns {bytes}"), &answer);
     let wrong = format!("{cut}02");
     typed(&format!("judge {wrong}"), "refused 8 100017");
+    typed(&format!("columns {wrong}"), "refused 8 100017");
     typed(&format!("point 0 {wrong}"), "refused 8 100017");
     let unseen = "point 19 - - . . . . . . . . 0 . . . . .";
     typed(&format!("look-up 0 {wrong}"), unseen);

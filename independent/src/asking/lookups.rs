@@ -49,6 +49,12 @@ impl Found<'_> {
     }
 }
 
+/// The bytes of wrong records, for other requests.
+pub fn wrong_slices(comparison: &Comparison, random: &mut Random) -> Vec<Vec<u8>> {
+    let tried = wrong::all(comparison, random).into_iter();
+    tried.map(|tried| tried.bytes).collect()
+}
+
 pub fn ask_all(comparison: &mut Comparison, random: &mut Random) {
     // Both are made before anything is asked, so that they don't depend on the answers.
     let good = shapes::all(comparison, random);

@@ -1,6 +1,7 @@
 //! What is asked of the two programs, one file for each sort of input.
 
 mod calibration;
+mod columns;
 mod damage;
 mod files;
 mod joined;
@@ -22,7 +23,7 @@ use crate::random::Random;
 
 pub fn everything(comparison: &mut Comparison, seed: u64) {
     examples::ask_all(comparison);
-    let sorts: [fn(&mut Comparison, &mut Random); 14] = [
+    let sorts: [fn(&mut Comparison, &mut Random); 15] = [
         records::ask_all,
         damage::ask_all,
         joined::ask_all,
@@ -37,6 +38,7 @@ pub fn everything(comparison: &mut Comparison, seed: u64) {
         calibration::ask_all,
         naming::ask_all,
         lookups::ask_all,
+        columns::ask_all,
     ];
     for (number, ask_all) in sorts.into_iter().enumerate() {
         // Each sort has a seed of its own, so that a change in one leaves the others.

@@ -3,9 +3,9 @@
 //! check in `check`, and answers to questions that differ in one thing are judged by twos.
 
 mod attributes;
-mod check;
+pub mod check;
 mod readings;
-mod values;
+pub mod values;
 
 use super::writes::ENDS;
 use crate::compare::{Answered, Claim, Comparison};
@@ -96,7 +96,7 @@ fn shuffled(random: &mut Random, line: &str) -> String {
 }
 
 /// A number just below a range, just above it, or far away.
-fn outside(random: &mut Random, (low, high): (i64, i64)) -> i64 {
+pub fn outside(random: &mut Random, (low, high): (i64, i64)) -> i64 {
     let far = random.pick(&ENDS);
     random.pick(&[low - 1, low - 1, high + 1, high + 1, far])
 }

@@ -66,7 +66,18 @@ fn stages(comparison: &mut Comparison, random: &mut Random) {
 
 /// The seven low bits of `set` are the stages 4, 11, 12 and 12, 13, 12 and 15 in their order;
 /// `length` is that of the record before any of them is broken.
-pub fn with_broken(random: &mut Random, mut parts: Parts, length: usize, set: u8) -> String {
+pub fn with_broken(random: &mut Random, parts: Parts, length: usize, set: u8) -> String {
+    let (parts, room) = break_stages(random, parts, length, set);
+    questions::write(&parts, room)
+}
+
+/// The same as parts and the room.
+pub fn break_stages(
+    random: &mut Random,
+    mut parts: Parts,
+    length: usize,
+    set: u8,
+) -> (Parts, usize) {
     let broken = |stage: u8| set & (1 << stage) != 0;
     // Values first: which channel has one depends on the description as it was.
     if broken(5) {
@@ -92,7 +103,7 @@ pub fn with_broken(random: &mut Random, mut parts: Parts, length: usize, set: u8
     } else {
         length + 60
     };
-    questions::write(&parts, room)
+    (parts, room)
 }
 
 /// X or Y or both not included, perhaps with nothing said of it.

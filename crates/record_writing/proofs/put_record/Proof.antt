@@ -6,9 +6,8 @@ use Prim.Native.Nat.{ℕ}
 use Rattle.formats.specs.Laid.{Room, Laid, laid-more, room-first, room-rest}
 use Rattle.channels.specs.Channel.{widthOf}
 use Rattle.points.specs.Points.{encodePoint}
-use Rattle.values.specs.Values.{size, pointsOf}
-use Rattle.values.specs.OrderLaws.{put-laid}
-use Rattle.values.specs.declared.Order.the-variants.{Point}
+use Rattle.orders.specs.Orders.{size, pointsOf}
+use Rattle.values.specs.ValueLaws.{put-laid}
 use Rattle.records.specs.Record.{encodeExtended}
 use Rattle.record_writing.specs.Parts.{frontBytes, recordBytes}
 use borrow.Author.Needs.{needs}
@@ -18,7 +17,7 @@ use Rattle.record_writing.proofs.put_record.Tie as tie
 -- there is room for each part
 module _ (s : tie.Start) where
   abbrev row : List ℕ
-  row = flatMap (encodePoint 2 (s .args .stored)) (pointsOf Point (s .args .count) (size (s .args .stored)) (s .args .values .now))
+  row = flatMap (encodePoint 2 (s .args .stored)) (pointsOf (s .args .order) (s .args .count) (size (s .args .stored)) (s .args .values .now))
 
   abbrev rest : List ℕ
   rest = row ++ encodeExtended (cond (s .args .wanted) (some (s .args .extended .now)) none)
@@ -49,7 +48,7 @@ module _ (c : tie.After-put) where
 
   points : Laid (fronted .put-front .last .0) (fronted .put-front .result) (row s) (c .put .last .0) (c .put .result)
   unfolding widthOf
-  points = put-laid 2 (s .args .stored) Point (s .args .count) (s .args .values .now) (s .pre .0 .fitting) (room-first _ _ (behind fronted)) (c .put .ensures)
+  points = put-laid 2 (s .args .stored) (s .args .order) (s .args .count) (s .args .values .now) (s .pre .0 .fitting) (room-first _ _ (behind fronted)) (c .put .ensures)
 
 put-extension-requires : tie.Need-put-extension-requires
 put-extension-requires c κs =

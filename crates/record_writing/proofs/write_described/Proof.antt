@@ -33,16 +33,16 @@ module _ (m : tie.After-judge-values) where
   asked = m .before .before .before .before
 
   abbrev meant : List ℕ
-  meant = recordBytes (asked .args .described .now) (asked .args .stored) (asked .args .count) (asked .args .values .now) (asked .args .wanted) (asked .args .extended .now)
+  meant = recordBytes (asked .args .order) (asked .args .described .now) (asked .args .stored) (asked .args .count) (asked .args .values .now) (asked .args .wanted) (asked .args .extended .now)
 
   by : {j : Judgement} → m .judge-values .result ≡ j
-      → writeDescribed (asked .args .described .now) (asked .args .stored) (asked .args .count) (asked .args .values .now) (asked .args .wanted) (asked .args .extended .now) (asked .args .out .now)
+      → writeDescribed (asked .args .order) (asked .args .described .now) (asked .args .stored) (asked .args .count) (asked .args .values .now) (asked .args .wanted) (asked .args .extended .now) (asked .args .out .now)
       ≡ putWhere meant (asked .args .out .now) j
   unfolding writeDescribed
   by e = ap (putWhere meant (asked .args .out .now)) (sym (m .judge-values .ensures) ∙ e)
 
-  pass : m .judge-values .result ≡ Passed → NumbersPass (asked .args .stored) (asked .args .count) (asked .args .values .now) (asked .args .wanted) (asked .args .extended .now)
-  pass e = numbers-pass (asked .args .stored) (asked .args .count) (asked .args .values .now) (asked .args .wanted) (asked .args .extended .now) (sym (m .judge-values .ensures) ∙ e)
+  pass : m .judge-values .result ≡ Passed → NumbersPass (asked .args .order) (asked .args .stored) (asked .args .count) (asked .args .values .now) (asked .args .wanted) (asked .args .extended .now)
+  pass e = numbers-pass (asked .args .order) (asked .args .stored) (asked .args .count) (asked .args .values .now) (asked .args .wanted) (asked .args .extended .now) (sym (m .judge-values .ensures) ∙ e)
 
 returns : tie.Need-returns
 unfolding putWhere
@@ -81,7 +81,7 @@ module _ (c : tie.After-record-size) where
       let a = asked from .args in
       c .record-size .ensures
       ∙ ap (λ y. length (a .described .now) + a .count * y + extra + 13) (c .before .width .ensures .0)
-      ∙ bytes-length (a .stored) (a .count) (a .values .now) (a .wanted) (a .extended .now) (a .described .now) (pass from (passed .enum-told .given .1) .fitting)
+      ∙ bytes-length (a .order) (a .stored) (a .count) (a .values .now) (a .wanted) (a .extended .now) (a .described .now) (pass from (passed .enum-told .given .1) .fitting)
 
 returns-2 : tie.Need-returns-2
 unfolding putWhere

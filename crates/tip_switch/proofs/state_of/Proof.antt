@@ -3,8 +3,8 @@ use native.Mathlib.Omega.{arith}
 use borrow.Author.Needs.{needs}
 use borrow.Author.Tests.{le-leb, lt-leb}
 use mir.Syntax.{w32}
-use mir.ValLaws.{toZ-pos}
-use Rattle.tip_switch.specs.Switch.{stateIf, stateOf}
+use mir.ValLaws.{toZ-ofZ}
+use Rattle.tip_switch.specs.Switch.{stateIf}
 use Rattle.tip_switch.proofs.state_of.Statement.{statement}
 use Rattle.tip_switch.proofs.state_of.Tie as tie
 
@@ -12,12 +12,12 @@ returns : tie.Need-returns
 unfolding stateIf
 returns c = rw (lt-leb (c .before .args .byte) 1 (omega arith))
 
-cast-t3 : tie.Need-cast-t3
-cast-t3 c = search needs
+state-requires : tie.Need-state-requires
+state-requires c κs = search needs
 
 returns-2 : tie.Need-returns-2
-unfolding stateIf stateOf
-returns-2 c = rw (le-leb (c .before .args .byte) 1 (omega arith), toZ-pos w32 (c .before .args .byte) (omega arith))
+unfolding stateIf
+returns-2 c = rw (le-leb (c .before .before .args .byte) 1 (omega arith), toZ-ofZ w32 (c .state .result) (search needs), c .state .ensures)
 
 pub state-of-spec : {M : Type 1} → statement M
-state-of-spec = tie.close (tie.spec returns cast-t3 returns-2)
+state-of-spec = tie.close (tie.spec returns state-requires returns-2)

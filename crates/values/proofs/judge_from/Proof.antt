@@ -9,8 +9,10 @@ use Rattle.refusals.specs.Ranges.{firstMisfit}
 use Rattle.refusals.specs.declared.Judgement.{Judgement}
 use Rattle.channels.specs.Channel.{widthOf}
 use Rattle.points.specs.Points.{channels}
-use Rattle.values.specs.Values.{size, samplesIn, samplesFrom}
-use Rattle.values.specs.Parts.{AllAt, Inside}
+use Rattle.orders.specs.Orders.{size}
+use Rattle.orders.specs.Parts.{AllAt}
+use Rattle.values.specs.Values.{samplesIn, samplesFrom}
+use Rattle.values.specs.Parts.{Inside}
 use Rattle.values.proofs.Lent.{NextPoint, next-point, next-judged, last-judged}
 use Rattle.values.proofs.judge_from.Statement.{statement}
 use Rattle.values.proofs.judge_from.Tie as tie

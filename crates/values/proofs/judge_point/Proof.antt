@@ -17,7 +17,8 @@ use Rattle.refusals.specs.declared.Refusal.the-variants.{OutOfRange}
 use Rattle.channels.specs.Channel.{widthOf}
 use Rattle.points.specs.Points.{channels, fitsSample}
 use Rattle.values.specs.Values.{samplesIn, storedSample}
-use Rattle.values.specs.Parts.{Inside, many}
+use Rattle.orders.specs.Parts.{many}
+use Rattle.values.specs.Parts.{Inside}
 use Rattle.values.proofs.Lent.{judgeLeft, pass-judged, pass-inside, Taken, take-inside, take-judged, judged-none, fits-number, fits-outside}
 use Rattle.values.proofs.judge_point.Statement.{statement}
 use Rattle.values.proofs.judge_point.Tie as tie

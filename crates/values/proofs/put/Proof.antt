@@ -8,7 +8,7 @@ use lib.Dec.{eqb, leb}
 use lib.ListN.{length}
 use Rattle.channels.specs.Channel.{widthOf}
 use Rattle.points.specs.Points.{channels, width}
-use Rattle.values.specs.Values.{size, step, stride}
+use Rattle.orders.specs.Orders.{size, step, stride}
 use Rattle.values.specs.Parts.{pointsBytes}
 use Rattle.values.proofs.Lent.{Ready, ready, put-amount, put-room, put-nothing, all-room, put-all}
 use borrow.Author.Needs.{needs}
@@ -18,12 +18,12 @@ use Rattle.values.proofs.put.Tie as tie
 size-requires : tie.Need-size-requires
 size-requires c κs = search needs
 
-has-amount-requires : tie.Need-has-amount-requires
-has-amount-requires c κs = search needs
+is-amount-requires : tie.Need-is-amount-requires
+is-amount-requires c κs = search needs
 
 -- whether the amount is right
-amount : (c : tie.After-has-amount) → let a = c .before .before .before .args in eqb (length (a .values .now)) (a .count * size (a .t6)) ≡ c .has-amount .result
-amount c = rw (← c .before .size .ensures .0) (sym (c .has-amount .ensures))
+amount : (c : tie.After-is-amount) → let a = c .before .before .before .args in eqb (length (a .values .now)) (a .count * size (a .t6)) ≡ c .is-amount .result
+amount c = rw (← c .before .size .ensures .0) (sym (c .is-amount .ensures))
 
 same : (c : tie.Else1) → let a = c .before .before .before .before .args in eqb (length (a .values .now)) (a .count * size (a .t6)) ≡ true
 same c = amount (c .before) ∙ not-false _ (c .if1 .left)
@@ -76,14 +76,14 @@ returns-4 c =
     let k = e .before .before .before .before in
     sym (put-nothing _ _ _ _ _ _ _ (same k) (room e) (sym (k .before .before .size .ensures .0) ∙ c .if4 .taken))
 
-step-of-requires : tie.Need-step-of-requires
-step-of-requires c κs = search needs
+step-requires : tie.Need-step-requires
+step-requires c κs = search needs
 
-stride-of-requires : tie.Need-stride-of-requires
-stride-of-requires c κs = search needs
+stride-requires : tie.Need-stride-requires
+stride-requires c κs = search needs
 
 -- the numbers are among the values
-module _ (c : tie.After-stride-of) where
+module _ (c : tie.After-stride) where
   abbrev roomed : tie.Else3
   roomed = c .before .before .before
 
@@ -93,15 +93,15 @@ module _ (c : tie.After-stride-of) where
   abbrev measured : tie.After-size
   measured = fit .before .before
 
-  taken : Ready (start roomed .args .values .now) (size (start roomed .args .t6)) (start roomed .args .count) (c .before .step-of .result) (c .stride-of .result)
-  taken = ready _ (start roomed .args .order) _ _ _ (same fit) (measured .size .ensures .0) (c .before .before .if4 .left) (measured .size .ensures .1) (c .before .step-of .ensures) (c .stride-of .ensures)
+  taken : Ready (start roomed .args .values .now) (size (start roomed .args .t6)) (start roomed .args .count) (c .before .step .result) (c .stride .result)
+  taken = ready _ (start roomed .args .order) _ _ _ (same fit) (measured .size .ensures .0) (c .before .before .if4 .left) (measured .size .ensures .1) (c .before .step .ensures) (c .stride .ensures)
 
-  bytes : pointsBytes (widthOf (start roomed .args .format)) (c .stride-of .result) (channels (start roomed .args .t6)) (start roomed .args .values .now) (c .before .step-of .result) (start roomed .args .count) 0
+  bytes : pointsBytes (widthOf (start roomed .args .format)) (c .stride .result) (channels (start roomed .args .t6)) (start roomed .args .values .now) (c .before .step .result) (start roomed .args .count) 0
       ≡ pointsBytes (widthOf (start roomed .args .format)) (stride (start roomed .args .order) (start roomed .args .count)) (channels (start roomed .args .t6)) (start roomed .args .values .now) (step (start roomed .args .order) (size (start roomed .args .t6))) (start roomed .args .count) 0
   bytes =
       ap₂ (λ d p. pointsBytes (widthOf (start roomed .args .format)) d (channels (start roomed .args .t6)) (start roomed .args .values .now) p (start roomed .args .count) 0)
-      (c .stride-of .ensures)
-      (c .before .step-of .ensures ∙ ap (step (start roomed .args .order)) (measured .size .ensures .0))
+      (c .stride .ensures)
+      (c .before .step .ensures ∙ ap (step (start roomed .args .order)) (measured .size .ensures .0))
 
 sixteen : (s : tie.Start) → length (s .args .t6) ≡ 16
 sixteen s = search needs
@@ -126,7 +126,7 @@ put-spec =
     tie.close
     (tie.spec
     size-requires
-    has-amount-requires
+    is-amount-requires
     returns
     returns-2
     width-requires
@@ -134,8 +134,8 @@ put-spec =
     is-within-requires
     returns-3
     returns-4
-    step-of-requires
-    stride-of-requires
+    step-requires
+    stride-requires
     put-from-requires
     same-length
     returns-5)

@@ -6,8 +6,9 @@ use native.Mathlib.Omega.{arith}
 use Rattle.formats.specs.Laid.{Owed, owed-all, owed-next, owed-none, owed-room, room-first}
 use Rattle.channels.specs.Channel.{widthOf}
 use Rattle.points.specs.Points.{channels}
-use Rattle.values.specs.Values.{size}
-use Rattle.values.specs.Parts.{AllAt, Inside, pointBytes, pointsBytes}
+use Rattle.orders.specs.Orders.{size}
+use Rattle.orders.specs.Parts.{AllAt}
+use Rattle.values.specs.Parts.{Inside, pointBytes, pointsBytes}
 use Rattle.values.proofs.Lent.{NextPoint, next-point, next-bytes, last-bytes}
 use Rattle.values.proofs.put_from.Statement.{statement}
 use Rattle.values.proofs.put_from.Tie as tie

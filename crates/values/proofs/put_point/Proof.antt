@@ -3,7 +3,8 @@ use Rattle.formats.specs.Laid.{owed-none, owed-room}
 use native.Mathlib.Omega.{arith}
 use Rattle.channels.specs.Channel.{widthOf}
 use Rattle.points.specs.Points.{channels}
-use Rattle.values.specs.Parts.{many, bytesLeft}
+use Rattle.orders.specs.Parts.{many}
+use Rattle.values.specs.Parts.{bytesLeft}
 use Rattle.values.proofs.Lent.{owed-run, bytes-none}
 use borrow.Author.Needs.{needs}
 use Rattle.values.proofs.put_point.Statement.{statement}

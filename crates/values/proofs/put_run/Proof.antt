@@ -14,7 +14,8 @@ use mir.ValLaws.{toZ-ofZ}
 use Rattle.formats.specs.Laid.{Owed, owed-all, owed-next, owed-room, room-first}
 use Rattle.channels.specs.Channel.{widthOf}
 use Rattle.values.specs.Values.{sampleBytes}
-use Rattle.values.specs.Parts.{Inside, many, bytesLeft}
+use Rattle.orders.specs.Parts.{many}
+use Rattle.values.specs.Parts.{Inside, bytesLeft}
 use Rattle.values.proofs.Lent.{pass-bytes, pass-inside, Taken, take-inside, take-bytes}
 use Rattle.values.proofs.put_run.Statement.{statement}
 use Rattle.values.proofs.put_run.Tie as tie

@@ -43,7 +43,7 @@ impl Said {
 
 /// None if the answer has another form.
 pub fn said(answered: &Answered) -> Option<Said> {
-    let answer = text(answered)?;
+    let answer = answered.text()?;
     let (single, looked) = match answer.strip_prefix("point ") {
         Some(behind) => {
             let (looked, places) = behind.split_once(' ')?;
@@ -58,18 +58,14 @@ pub fn said(answered: &Answered) -> Option<Said> {
     Some(Said { single, looked })
 }
 
-fn text(answered: &Answered) -> Option<&str> {
-    std::str::from_utf8(answered.theirs.as_deref()?).ok()
-}
-
 /// Document 01's single request on the same bytes, whatever they are.
 pub fn judge_joined(comparison: &mut Comparison, answered: [&Answered; 3]) {
     let [judged, single, looked_up] = answered;
-    let joined = match text(judged) {
+    let joined = match judged.text() {
         Some(judged) if judged.starts_with("refused ") => Some(judged.to_string()),
         _ => said(looked_up).map(|said| said.single),
     };
-    let holds = joined.is_some() && joined.as_deref() == text(single);
+    let holds = joined.is_some() && joined.as_deref() == single.text();
     comparison.claim(JOINED, &answered, holds);
 }
 

@@ -1,10 +1,10 @@
 //! Good records of many shapes, and the same with a count beyond the points that are there.
 
 use super::Tried;
-use crate::channels::{S, X, Y};
 use crate::compare::Comparison;
 use crate::description::{Description, Format};
 use crate::inputs::{self, Constants};
+use crate::kinds::{self, Kind};
 use crate::layout::Layout;
 use crate::random::Random;
 use crate::record::GREATEST_COUNT;
@@ -20,44 +20,15 @@ pub fn all(comparison: &Comparison, random: &mut Random) -> Vec<Tried> {
     tried
 }
 
-/// Whether a channel has bytes in a point, is constant, or isn't there.
-#[derive(Clone, Copy, PartialEq, Eq)]
-enum Kind {
-    Stored,
-    Constant,
-    Absent,
-}
-
-const KINDS: [Kind; 3] = [Kind::Stored, Kind::Constant, Kind::Absent];
-const Z: usize = 2;
-const R: usize = 15;
-
 /// X, Y, S, a channel before S and one behind it, each of every kind that it can be.
 fn every_kind(random: &mut Random) -> Vec<Tried> {
-    let mut combinations: Vec<Vec<(usize, Kind)>> = vec![Vec::new()];
-    for channel in [X, Y, Z, S, R] {
-        let kinds = match channel {
-            X | Y => &KINDS[..2],
-            _ => &KINDS[..],
-        };
-        let with_one = |before: Vec<(usize, Kind)>| {
-            let with = move |kind: &Kind| [&before[..], &[(channel, *kind)]].concat();
-            kinds.iter().map(with)
-        };
-        combinations = combinations.into_iter().flat_map(with_one).collect();
-    }
     let of = |kinds: &Vec<(usize, Kind)>| of_kinds(random, kinds);
-    combinations.iter().map(of).collect()
+    kinds::every_combination().iter().map(of).collect()
 }
 
 /// Three points.
 fn of_kinds(random: &mut Random, kinds: &[(usize, Kind)]) -> Tried {
-    let mut description = Description::default();
-    for (channel, kind) in kinds.iter().filter(|(_, kind)| *kind != Kind::Absent) {
-        let few = random.byte() & random.byte() & !4;
-        let constant = if *kind == Kind::Constant { 4 } else { 0 };
-        description[*channel] = inputs::said(random, Format::Full, *channel, few | constant);
-    }
+    let description = kinds::description(random, kinds);
     let bytes = of_points(random, description, 3);
     let far = far(random, &bytes, 3);
     let indices = vec![0, random.between(1, 2), 3, far];
@@ -154,18 +125,9 @@ fn few_of_many(random: &mut Random) -> Option<Tried> {
     Some(Tried { bytes, indices })
 }
 
-/// All channels with all attributes, none of them constant: no lookup looks at more bytes.
-pub fn greatest(random: &mut Random, count: i64) -> Parts {
-    let mut description = Description::default();
-    for (channel, said) in description.iter_mut().enumerate() {
-        let flags = 0xF8 | random.byte() & 2;
-        *said = inputs::said(random, Format::Full, channel, flags);
-    }
-    inputs::of_description(random, description, count)
-}
-
+/// No lookup looks at more bytes.
 fn greatest_with(random: &mut Random, count: i64) -> Tried {
-    let parts = greatest(random, count);
+    let parts = inputs::greatest_parts(random, count);
     Tried {
         bytes: lengthened(random, &parts),
         indices: (0..=count).collect(),

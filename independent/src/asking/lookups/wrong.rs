@@ -1,7 +1,6 @@
 //! Records cut at every byte, changed at every byte, and with an S that isn't admitted, in the
 //! point that is looked up and in others.
 
-use super::shapes::greatest;
 use super::Tried;
 use crate::channels::{bit, S};
 use crate::compare::Comparison;
@@ -17,7 +16,7 @@ pub fn all(comparison: &Comparison, random: &mut Random) -> Vec<Tried> {
         tried.extend(cut_everywhere(random, &parts));
         tried.extend(changed_everywhere(random, &parts));
     }
-    let long = greatest(random, 2);
+    let long = inputs::greatest_parts(random, 2);
     tried.extend(cut_everywhere(random, &long));
     tried.extend(changed_at(random, &long, inputs::ruled_places(&long)));
     for _ in 0..comparison.amount(40) {

@@ -63,10 +63,11 @@ fn number(name: &str, text: &str, (low, high): Range) -> Stage {
 fn stages(question: &str) -> Option<Vec<Stage>> {
     let words: Vec<&str> = question.split(' ').collect();
     Some(match words[..] {
-        ["write", count, values, _, _, ref channels @ ..] => {
+        ["write" | "write-columns", count, values, _, _, ref channels @ ..] => {
             let mut stages = of_description(channels, 0);
             stages.push(number("count", count, COUNTS));
-            stages.extend(of_values(count, values, channels));
+            let by_column = words[0] == "write-columns";
+            stages.extend(of_values(by_column, count, values, channels));
             stages
         }
         ["write-template", maximum, _, ref channels @ ..] => of_template(maximum, channels),
@@ -157,8 +158,9 @@ fn is_untidy(word: &str) -> bool {
     numbers().any(is_not_zero)
 }
 
-/// 13, and each value with its index among all of them and its channel.
-fn of_values(count: &str, values: &str, words: &[&str]) -> Vec<Stage> {
+/// 13, and each value with its index among all of them and its channel. They are judged in point
+/// order, also where they stand column after column.
+fn of_values(by_column: bool, count: &str, values: &str, words: &[&str]) -> Vec<Stage> {
     let is_stored = |name: &str| {
         let constant = word_of(words, name).and_then(|word| part_of(word, "constant"));
         is_included(words, name) && constant != Some("constant")
@@ -169,8 +171,17 @@ fn of_values(count: &str, values: &str, words: &[&str]) -> Vec<Stage> {
         .parse::<i128>()
         .map(|count| count * stored.len() as i128);
     let mut stages = vec![stage("13", wanted != Ok(values.len() as i128))];
-    for (index, (text, row)) in values.iter().zip(stored.iter().cycle()).enumerate() {
-        stages.push(number(&format!("value {index} {}", row.0), text, row.2));
+    // If there are too few or too many, 13 comes before anything that is said of one of them.
+    let points = values.len().checked_div(stored.len()).unwrap_or(0);
+    for point in 0..points {
+        for (column, row) in stored.iter().enumerate() {
+            let index = match by_column {
+                true => column * points + point,
+                false => point * stored.len() + column,
+            };
+            let name = format!("value {index} {}", row.0);
+            stages.push(number(&name, values[index], row.2));
+        }
     }
     stages
 }
@@ -188,13 +199,33 @@ const UNNAMED: Claim = (
     "what is answered is so, and no number judged before it is out of its range",
 );
 
+/// The same of `write-columns` (request L9).
+const OF_COLUMNS: [Claim; 3] = [
+    (
+        "values in columns: numbers named by 12",
+        "the number named stands in the question with its flag and is out of its range",
+    ),
+    (
+        "values in columns: numbers before the one named",
+        "what is judged before the number named is good; the values are judged in point order",
+    ),
+    (
+        "values in columns: answers that name no number",
+        "what is answered is so, and no number judged before it is out of its range",
+    ),
+];
+
 /// The claims on one answer.
 pub fn judge(comparison: &mut Comparison, answered: &Answered) {
     let said = refusal(answered);
+    let [named, first, unnamed] = match answered.question.starts_with(b"write-columns ") {
+        true => OF_COLUMNS,
+        false => [NAMED, FIRST, UNNAMED],
+    };
     let mut claim = |claim, holds| comparison.claim(claim, &[answered], holds);
     let Some(stages) = stages(&text(&answered.question)) else {
         // Nothing is known of such a question, so nothing can be said for its answer.
-        return claim(UNNAMED, false);
+        return claim(unnamed, false);
     };
     let place = said
         .as_ref()
@@ -203,12 +234,12 @@ pub fn judge(comparison: &mut Comparison, answered: &Answered) {
     let is_first = place.is_some_and(|place| stages[..place].iter().all(|stage| !stage.wrong));
     match said {
         Some(said) if said.split(' ').next() == Some("12") => {
-            claim(NAMED, is_wrong);
-            claim(FIRST, is_first);
+            claim(named, is_wrong);
+            claim(first, is_first);
         }
-        Some(_) => claim(UNNAMED, is_wrong && is_first),
+        Some(_) => claim(unnamed, is_wrong && is_first),
         None => claim(
-            UNNAMED,
+            unnamed,
             is_done(answered) && stages.iter().all(|stage| !stage.wrong),
         ),
     }

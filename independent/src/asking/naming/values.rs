@@ -30,7 +30,7 @@ pub fn ask_all(comparison: &mut Comparison, random: &mut Random) {
 
 /// Records with constant channels in front, between and behind, with S in each place, and with all
 /// sixteen; and how many points they have.
-const RECORDS: [(&str, i64); 8] = [
+pub const RECORDS: [(&str, i64); 8] = [
     ("X Y", 4),
     ("X.constant Y S", 4),
     ("X Y.constant S.constant R", 4),
@@ -41,7 +41,7 @@ const RECORDS: [(&str, i64); 8] = [
     ("X Y Z VX VY AX AY T DT F S TX TY Az El R", 2),
 ];
 
-fn of_words(random: &mut Random, channels: &str, count: i64) -> Parts {
+pub fn of_words(random: &mut Random, channels: &str, count: i64) -> Parts {
     let description = Words::new(channels.as_bytes())
         .channels()
         .unwrap_or_default();
@@ -62,7 +62,7 @@ fn line(random: &mut Random, parts: &Parts) -> String {
 }
 
 /// The range of the value with this index.
-fn range(parts: &Parts, index: usize) -> (i64, i64) {
+pub fn range(parts: &Parts, index: usize) -> (i64, i64) {
     let channels = stored(&parts.description);
     value_range(channels[index % channels.len()])
 }
@@ -141,7 +141,7 @@ fn behind_attributes(comparison: &mut Comparison, random: &mut Random) {
 }
 
 /// One to four points of a few channels, some of them constant, S half the time.
-fn any_record(random: &mut Random) -> Parts {
+pub fn any_record(random: &mut Random) -> Parts {
     let description = inputs::small_parts(random).description;
     let count = random.between(1, 4);
     with_points(random, description, count)

@@ -1,4 +1,4 @@
--- `values::size` meets its contract. The invariant: all that are stored are those counted and those left.
+-- `orders::size` meets its contract. The invariant: all that are stored are those counted and those left.
 use mathlib.Core.Path.{_≡_}
 use mathlib.Core.Logic.{⊎-elim}
 use Prim.Native.Nat.{_≤_, _<_, _-_, _+_}
@@ -6,10 +6,10 @@ use native.Mathlib.Omega.{arith}
 use borrow.Author.Needs.{needs}
 use lib.ListN.{length}
 use Rattle.points.specs.Points.{channels}
-use Rattle.values.specs.Parts.{many}
-use Rattle.values.proofs.Lent.{many-out, many-in, many-none}
-use Rattle.values.proofs.size.Statement.{statement}
-use Rattle.values.proofs.size.Tie as tie
+use Rattle.orders.specs.Parts.{many}
+use Rattle.orders.proofs.Left.{many-out, many-in, many-none}
+use Rattle.orders.proofs.size.Statement.{statement}
+use Rattle.orders.proofs.size.Tie as tie
 
 abbrev Inv-loop : tie.InvT-loop
 Inv-loop stored n₀ i₀ n i = (i ≤ 16) × (n ≤ i) × (length (channels stored) ≡ n + many stored i)

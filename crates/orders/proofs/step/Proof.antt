@@ -1,8 +1,8 @@
--- `values::step_of` meets its contract.
-use Rattle.values.specs.Values.{step}
+-- `orders::step` meets its contract.
+use Rattle.orders.specs.Orders.{step}
 use borrow.Author.Needs.{needs}
-use Rattle.values.proofs.step_of.Statement.{statement}
-use Rattle.values.proofs.step_of.Tie as tie
+use Rattle.orders.proofs.step.Statement.{statement}
+use Rattle.orders.proofs.step.Tie as tie
 
 enum-told : tie.Need-enum-told
 enum-told c = search needs
@@ -18,5 +18,5 @@ returns-2 : tie.Need-returns-2
 unfolding step
 returns-2 c = rw (c .enum-told2 .given .1)
 
-pub step-of-spec : {M : Type 1} → statement M
-step-of-spec = tie.close (tie.spec enum-told enum-told-2 returns returns-2)
+pub step-spec : {M : Type 1} → statement M
+step-spec = tie.close (tie.spec enum-told enum-told-2 returns returns-2)

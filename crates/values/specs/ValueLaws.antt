@@ -1,8 +1,8 @@
--- Values in point order and by column: where a number stands, that both orders hold the same points, and what is said and put of them.
+-- Values in either order: those that fit are valid points and are put as their encoding, the first that does not fit is named, and both orders are said and put the same.
 use mathlib.Core.Path.{_≡_, refl, sym, ap, ap₂, _∙_}
 use mathlib.Core.Logic.{_↔_}
 use mathlib.Core.Bool.{Bool, true, false, cond, _&&_}
-use mathlib.Core.List.{List, [], _∷_, _++_, flatMap, flatten, append-assoc}
+use mathlib.Core.List.{List, [], _∷_, _++_, flatMap}
 use Prim.Native.Nat.{ℕ, zero, suc, _+_, _*_, _%_, _<_}
 use native.Mathlib.Omega.{arith}
 use borrow.Author.Tests.{eqb-true, eq-eqb, le-leb}
@@ -10,7 +10,6 @@ use lib.Dec.{T, eqb, leb}
 use lib.Ieee.Bits.{is-true}
 use lib.IntN.{ℤ, pos}
 use lib.ListN.{length, getD, length-append}
-use lib.Seq.{getD-append-seam}
 use Rattle.formats.specs.Bytes.{impossible}
 use Rattle.formats.specs.Number.{digits, length-digits}
 use Rattle.formats.specs.Put.{puts}
@@ -28,54 +27,12 @@ use Rattle.channels.specs.Channel.{S, signedOf}
 use Rattle.channels.specs.Stored.{storedOf, fits, storedIf}
 use Rattle.tip_switch.specs.Switch.{byteOf, isState, byteIf, state-byte}
 use Rattle.points.specs.Points.{channels, sampleSize, widths, width, encodeSample, encodePoint, fitsSample, ValidPoint}
-use Rattle.values.specs.Values.{size, step, stride, index, numbersFrom, pointsFrom, pointsOf, samplesIn, samplesFrom, samples, judgementOf, storedSample, numberIn, sampleBytes, bytesOf, putOf}
 use Rattle.points.specs.Laws.{points-length}
-use Rattle.values.specs.declared.Order.{Order}
-use Rattle.values.specs.declared.Order.the-variants.{Point, Column}
-
--- ---- Where a number stands
-
-module _ (values : List ℤ) (d : ℕ) where
-  length-numbers : (k from : ℕ) → length (numbersFrom values d k from) ≡ k
-  unfolding numbersFrom
-  length-numbers zero from = refl
-  length-numbers (suc k) from = ap suc (length-numbers k (from + d))
-
-  nth-number : (k from r : ℕ) → r < k → getD (numbersFrom values d k from) r (pos 0) ≡ getD values (from + r * d) (pos 0)
-  unfolding numbersFrom
-  nth-number zero from r h = absurd (omega arith)
-  nth-number (suc k) from zero h = let z : from ≡ from + 0 * d = omega arith in ap (λ i. getD values i (pos 0)) z
-  nth-number (suc k) from (suc r) h =
-      let z : from + d + r * d ≡ from + suc r * d = omega arith in
-      nth-number k (from + d) r (omega arith) ∙ ap (λ i. getD values i (pos 0)) z
-
-  module _ (k p : ℕ) where
-    length-points : (n from : ℕ) → length (pointsFrom values d k p n from) ≡ n
-    unfolding pointsFrom
-    length-points zero from = refl
-    length-points (suc n) from = ap suc (length-points n (from + p))
-
-    nth-point : (n from i : ℕ) → i < n → getD (pointsFrom values d k p n from) i [] ≡ numbersFrom values d k (from + i * p)
-    unfolding pointsFrom
-    nth-point zero from i h = absurd (omega arith)
-    nth-point (suc n) from zero h = let z : from ≡ from + 0 * p = omega arith in ap (numbersFrom values d k) z
-    nth-point (suc n) from (suc i) h =
-        let z : from + p + i * p ≡ from + suc i * p = omega arith in
-        nth-point n (from + p) i (omega arith) ∙ ap (numbersFrom values d k) z
-
-module _ (order : Order) (count k : ℕ) (values : List ℤ) where
-  -- there are as many points as are counted
-  pub points-many : length (pointsOf order count k values) ≡ count
-  unfolding pointsOf
-  points-many = length-points values (stride order count) k (step order k) count 0
-
-  -- and the rth number of the ith is the one with their index
-  pub number-is : (i r : ℕ) → i < count → r < k → getD (getD (pointsOf order count k values) i []) r (pos 0) ≡ getD values (index order count k i r) (pos 0)
-  unfolding pointsOf
-  number-is i r h g =
-      ap (λ l. getD l r (pos 0)) (nth-point values (stride order count) k (step order k) count 0 i h)
-      ∙ nth-number values (stride order count) k (0 + i * step order k) r g
-      ∙ ap (λ j. getD values j (pos 0)) {x = 0 + i * step order k + r * stride order count} {y = i * step order k + r * stride order count} (omega arith)
+use Rattle.orders.specs.Orders.{size, step, stride, index, Same, numbersFrom, pointsFrom, pointsOf, valuesOf}
+use Rattle.orders.specs.OrderLaws.{points-many, same-points, values-many, points-again}
+use Rattle.orders.specs.declared.Order.{Order}
+use Rattle.orders.specs.declared.Order.the-variants.{Point, Column}
+use Rattle.values.specs.Values.{samplesIn, samplesFrom, samples, judgementOf, storedSample, numberIn, sampleBytes, bytesOf, putOf}
 
 -- ---- How many bytes are put
 
@@ -99,53 +56,9 @@ module _ (w : ℕ) where
         ∙ ap₂ _+_ (point-bytes l from) (points-bytes l p n (from + p))
         ∙ omega arith
 
--- ---- Both orders hold the same numbers
+-- ---- Both orders
 
-module _ (k : ℕ) (rows columns : List ℤ) (d e : ℕ) where
-  same-numbers : (n from start : ℕ) → ((r : ℕ) → r < n → getD rows (from + r * d) (pos 0) ≡ getD columns (start + r * e) (pos 0)) → numbersFrom rows d n from ≡ numbersFrom columns e n start
-  unfolding numbersFrom
-  same-numbers zero from start h = refl
-  same-numbers (suc n) from start h =
-      ap₂
-      _∷_
-      (let y : from + 0 * d ≡ from = omega arith in let z : start + 0 * e ≡ start = omega arith in rw (y, z) at (h 0 (omega arith)))
-      (same-numbers n (from + d) (start + e) (λ r q.
-      let y : from + suc r * d ≡ from + d + r * d = omega arith in
-      let z : start + suc r * e ≡ start + e + r * e = omega arith in
-      rw (y, z) at (h (suc r) (omega arith))))
-
-  same-from : (p q n from start : ℕ) → ((i r : ℕ) → i < n → r < k → getD rows (from + i * p + r * d) (pos 0) ≡ getD columns (start + i * q + r * e) (pos 0))
-      → pointsFrom rows d k p n from ≡ pointsFrom columns e k q n start
-  unfolding pointsFrom
-  same-from p q zero from start h = refl
-  same-from p q (suc n) from start h =
-      ap₂
-      _∷_
-      (same-numbers k from start (λ r g.
-      let y : from + 0 * p + r * d ≡ from + r * d = omega arith in
-      let z : start + 0 * q + r * e ≡ start + r * e = omega arith in
-      rw (y, z) at (h 0 r (omega arith) g)))
-      (same-from p q n (from + p) (start + q) (λ i r f g.
-      let y : from + suc i * p + r * d ≡ from + p + i * p + r * d = omega arith in
-      let z : start + suc i * q + r * e ≡ start + q + i * q + r * e = omega arith in
-      rw (y, z) at (h (suc i) r (omega arith) g)))
-
--- values in point order, and the same by column
-abbrev pub Same : (count k : ℕ) (rows columns : List ℤ) → Type 0
-Same count k rows columns =
-    (i r : ℕ) → i < count → r < k → getD rows (index Point count k i r) (pos 0) ≡ getD columns (index Column count k i r) (pos 0)
-
-module _ (count k : ℕ) (rows columns : List ℤ) (same : Same count k rows columns) where
-  -- are the same points
-  pub same-points : pointsOf Point count k rows ≡ pointsOf Column count k columns
-  unfolding pointsOf
-  same-points =
-      same-from k rows columns (stride Point count) (stride Column count) (step Point k) (step Column k) count 0 0 (λ i r f g.
-      let y : 0 + i * step Point k + r * stride Point count ≡ i * step Point k + r * stride Point count = omega arith in
-      let z : 0 + i * step Column k + r * stride Column count ≡ i * step Column k + r * stride Column count = omega arith in
-      rw (y, z) (same i r f g))
-
--- and so they are put as the same bytes
+-- values that are the same points are put as the same bytes
 pub same-put : (w : ℕ) (stored : List Bool) (count : ℕ) (rows columns : List ℤ) (out : List ℕ) (at : ℕ) → length rows ≡ length columns → Same count (size stored) rows columns
     → putOf w stored Point count rows out at ≡ putOf w stored Column count columns out at
 unfolding putOf
@@ -244,33 +157,7 @@ module _ (w : ℕ) (stored : List Bool) (order : Order) (count : ℕ) (values : 
       let x : writing end t ≡ writing (at + count * width w stored) (puts out at (bytesOf w stored points)) = e ∙ rw (a, b) in
       record { place = ap (λ v. v .answer) x ∙ ap (λ n. at + n) (sym fits-length); bytes = ap (λ v. v .bytes) x ∙ ap (puts out at) (valid-bytes w stored points valid) }
 
--- ---- The points of one row
-
-numbers-of : (a p b : List ℤ) → numbersFrom (a ++ (p ++ b)) 1 (length p) (length a) ≡ p
-unfolding numbersFrom
-numbers-of a [] b = refl
-numbers-of a (v ∷ p) b =
-    let e : a ++ (v ∷ (p ++ b)) ≡ (a ++ (v ∷ [])) ++ (p ++ b) = sym (append-assoc a (v ∷ []) (p ++ b)) in
-    let l : length a + 1 ≡ length (a ++ (v ∷ [])) = sym (length-append a (v ∷ [])) in
-    ap₂ _∷_ (getD-append-seam a v (p ++ b) (pos 0)) (rw (e, l) (numbers-of (a ++ (v ∷ [])) p b))
-
-points-from : (k : ℕ) (a : List ℤ) (points : List (List ℤ)) → All (λ p. length p ≡ k) points → pointsFrom (a ++ flatten points) 1 k k (length points) (length a) ≡ points
-unfolding pointsFrom flatten
-points-from k a [] h = refl
-points-from k a (p ∷ points) h =
-    let e : a ++ (p ++ flatten points) ≡ (a ++ p) ++ flatten points = sym (append-assoc a p (flatten points)) in
-    let l : length a + k ≡ length (a ++ p) = ap (λ n. length a + n) (sym (h .0)) ∙ sym (length-append a p) in
-    ap₂ _∷_ (ap (λ n. numbersFrom (a ++ (p ++ flatten points)) 1 n (length a)) (sym (h .0)) ∙ numbers-of a p (flatten points)) (rw (e, l) (points-from k (a ++ p) points (h .1)))
-
--- points of k numbers, laid in one row in point order, are those points
-pub row-points : (k : ℕ) (points : List (List ℤ)) → All (λ p. length p ≡ k) points → pointsOf Point (length points) k (flatten points) ≡ points
-unfolding pointsOf step stride
-row-points k points h = points-from k [] points h
-
-pub row-length : (k : ℕ) (points : List (List ℤ)) → All (λ p. length p ≡ k) points → length (flatten points) ≡ length points * k
-unfolding flatten
-row-length k [] h = omega arith
-row-length k (p ∷ points) h = length-append p (flatten points) ∙ omega (arith, h .0, row-length k points (h .1))
+-- ---- Points laid out
 
 each-size : (w : ℕ) (l : List ℕ) (vs : List ℤ) → Fitted w l vs → length vs ≡ length l
 each-size w [] [] h = refl
@@ -283,11 +170,12 @@ unfolding ValidPoint
 valid-sizes w stored [] h = tt
 valid-sizes w stored (p ∷ points) h = (each-size w (channels stored) p (h .0), valid-sizes w stored points (h .1))
 
--- so valid points in one row fit
-pub row-fits : (w : ℕ) (stored : List Bool) (points : List (List ℤ)) → All (ValidPoint w stored) points → judgementOf w stored Point (length points) (flatten points) ≡ Passed
-row-fits w stored points h =
+-- so valid points fit, laid out in either order
+pub laid-fits : (w : ℕ) (stored : List Bool) (order : Order) (points : List (List ℤ)) → All (ValidPoint w stored) points
+    → judgementOf w stored order (length points) (valuesOf order (size stored) points) ≡ Passed
+laid-fits w stored order points h =
     let n = valid-sizes w stored points h in
-    valid-fits w stored Point (length points) (flatten points) (row-length (size stored) points n) (rw (row-points (size stored) points n) h)
+    valid-fits w stored order (length points) (valuesOf order (size stored) points) (values-many (size stored) points n order) (rw (points-again (size stored) points n order) h)
 
 -- ---- Which number doesn't fit
 
