@@ -19,7 +19,7 @@ use Rattle.record_parts.specs.Parts.{extendedPlace, extendedSize, restPlace, re
 use Rattle.record_reading.specs.declared.Verdict.{Verdict}
 use Rattle.record_reading.specs.declared.Judged.{Judged}
 use Rattle.record_points.specs.declared.Pointed.{Pointed}
-use Rattle.record_writing.specs.Write.{writeOf}
+use Rattle.record_writing.specs.Write.{writeOf, writeColumnsOf}
 use Rattle.record_writing.specs.declared.Written.{Written}
 
 -- ---- Reading: r is answered of the bytes s
@@ -50,3 +50,6 @@ rest s r = Part s r (restPlace (run fullRecord (now s))) (restSize (length (now 
 
 abbrev pub write : Description → (count : ℕ) (values : List ℤ) (wanted : Bool) (extended out : List ℕ) → Written → (after : List ℕ) → Type 0
 write d count values wanted extended out r after = writing r after ≡ writeOf d count values wanted extended out
+
+abbrev pub writeColumns : Description → (count : ℕ) (values : List ℤ) (wanted : Bool) (extended out : List ℕ) → Written → (after : List ℕ) → Type 0
+writeColumns d count values wanted extended out r after = writing r after ≡ writeColumnsOf d count values wanted extended out

@@ -63,3 +63,16 @@ fn write(
 {
     record_writing::write(description, count, values, wanted, extended, out)
 }
+
+fn write_columns(
+    description: Description,
+    count: usize,
+    values: &[i32],
+    wanted: bool,
+    extended: &[u8],
+    out: &mut [u8],
+) -> Written
+    ensures { λ r. ⌜ promises.writeColumns description count (now (values .entry)) wanted (now (extended .entry)) (now (out .entry)) r (now (out .exit)) ⌝ }
+{
+    record_writing::write_columns(description, count, values, wanted, extended, out)
+}

@@ -4,7 +4,7 @@ use mathlib.Core.Bool.{Bool, true, false}
 use mathlib.Core.List.{List}
 use Prim.Native.Nat.{ℕ, _+_, _-_, _≤_, _<_}
 use native.Mathlib.Omega.{arith}
-use borrow.Author.Tests.{ne-eqb, eqb-true, eqb-false}
+use borrow.Author.Tests.{eq-eqb, ne-eqb, eqb-true, eqb-false}
 use lib.Dec.{eqb}
 use lib.ListN.{length, getD}
 use Rattle.formats.specs.Reader.{ok, short, bad, mapped, done, readAt, one}
@@ -22,6 +22,9 @@ pub one-or-two : (format : Format) → (1 ≤ widthOf format) × (widthOf format
 unfolding widthOf
 one-or-two Full = (omega arith, omega arith)
 one-or-two Compact = (omega arith, omega arith)
+
+pub switch-size : (w channel : ℕ) → channel ≡ S → sampleSize w channel ≡ 1
+switch-size w channel e = rw (eq-eqb channel S e)
 
 -- a channel whose number is no switch
 abbrev pub Wide : ℕ → Type 0

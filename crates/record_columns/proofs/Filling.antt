@@ -7,7 +7,6 @@ use Prim.Native.Nat.{ℕ, suc, _+_, _*_, _≤_, _<_}
 use native.Mathlib.Decide.{decLt}
 use native.Mathlib.Nat.{mul-le-mul-right}
 use native.Mathlib.Omega.{arith}
-use borrow.Author.Tests.{eq-eqb}
 use lib.IntN.{ℤ, pos}
 use lib.ListN.{length, getD, set, drop, length-set, length-append}
 use lib.Seq.{getD-set-same, getD-set-other}
@@ -25,12 +24,9 @@ use Rattle.orders.specs.OrderLaws.{rankAt, index-within, strides-within, rank-a
 use Rattle.orders.specs.Parts.{AllAt}
 use Rattle.orders.specs.declared.Order.{Order}
 use Rattle.record_layouts.specs.LayoutLaws.{times-length}
-use Rattle.record_columns.specs.Parts.{NumberAt, Filled, PointsFilled}
+use Rattle.record_columns.specs.Parts.{NumberAt, ChannelFilled, PointsFilled}
 
 -- ---- One number
-
-pub switch-size : (w channel : ℕ) → channel ≡ S → sampleSize w channel ≡ 1
-switch-size w channel e = rw (eq-eqb channel S e)
 
 -- what is read is one number
 pub number-is : (s : List ℕ) (channel at : ℕ) {v : ℤ} {end : ℕ} → readAt (sample 2 channel) s at ≡ ok v end → NumberAt s channel at v
@@ -50,14 +46,14 @@ state-read s channel at e h v end q = go (admitted (getD s at 0)) refl
 -- ---- Those of a channel
 
 module _ (s : List ℕ) (channel start width from step : ℕ) (before : List ℤ) where
-  pub none-filled : Filled s channel start width from step 0 before before
+  pub none-filled : ChannelFilled s channel start width from step 0 before before
   none-filled = record { many = refl; numbers = λ i h. absurd (omega arith); others = λ at h. refl }
 
   apart : (i j : ℕ) → 0 < step → i < j → from + i * step ≡ from + j * step → ⊥
   apart i j some h e = omega (arith, mul-le-mul-right {m = suc i} {n = j} step (omega arith))
 
-  module _ (i : ℕ) (now : List ℤ) (filled : Filled s channel start width from step i before now) (v : ℤ) (some : 0 < step) (there : from + i * step < length now) (is : NumberAt s channel (start + i * width) v) where
-    pub next-filled : Filled s channel start width from step (i + 1) before (set now (from + i * step) v)
+  module _ (i : ℕ) (now : List ℤ) (filled : ChannelFilled s channel start width from step i before now) (v : ℤ) (some : 0 < step) (there : from + i * step < length now) (is : NumberAt s channel (start + i * width) v) where
+    pub next-filled : ChannelFilled s channel start width from step (i + 1) before (set now (from + i * step) v)
     next-filled = record {
       many = length-set now (from + i * step) v ∙ filled .many;
       numbers = λ j h.
@@ -72,8 +68,8 @@ module _ (s : List ℕ) (channel start width from step : ℕ) (before : List ℤ
 
 module _ (s : List ℕ) (start : ℕ) (stored : List Bool) (count p d : ℕ) where
   -- the numbers of the first r stored channels are filled in: of point i and rank q the number stands i steps and q strides behind the start
-  abbrev pub ChannelsFilled : (r : ℕ) → List ℤ → Type 0
-  ChannelsFilled r values =
+  abbrev pub RanksFilled : (r : ℕ) → List ℤ → Type 0
+  RanksFilled r values =
       (points : List (List ℤ)) (end : ℕ) → readAt (times count (point 2 stored)) s start ≡ ok points end
       → (i q : ℕ) → i < count → q < r → getD values (i * p + q * d) (pos 0) ≡ getD (getD points i []) q (pos 0)
 
@@ -84,7 +80,7 @@ module _ (s : List ℕ) (start : ℕ) (stored : List Bool) (count p d : ℕ) whe
     pub place : at ≡ start + widths 2 before
     pub index : from ≡ length before * d
     pub many : length values ≡ count * size stored
-    pub filled : ChannelsFilled (length before) values
+    pub filled : RanksFilled (length before) values
 
   pub none-gone : (values : List ℤ) → length values ≡ count * size stored → Gone 0 start 0 values
   unfolding channels widths
@@ -139,7 +135,7 @@ module _ (s : List ℕ) (start : ℕ) (stored : List Bool) (count p d : ℕ) whe
       pub places-there : AllAt (λ i. i < length values) p count from
       places-there i h = omega (arith, gone .index, gone .many, index-is i rank, index-within count (size stored) i rank h among order)
 
-      module _ (after : List ℤ) (fills : Filled s channel at (width 2 stored) from p count values after) where
+      module _ (after : List ℤ) (fills : ChannelFilled s channel at (width 2 stored) from p count values after) where
         -- an earlier number is in no place of these
         kept : (i q : ℕ) → i < count → q < rank → (j : ℕ) → j < count → i * p + q * d ≡ from + j * p → ⊥
         kept i q h g j f e =
@@ -147,7 +143,7 @@ module _ (s : List ℕ) (start : ℕ) (stored : List Bool) (count p d : ℕ) whe
             let y = sym (rank-at count (size stored) i q h (omega (arith, among)) order) ∙ ap (rankAt order count (size stored)) z ∙ rank-at count (size stored) j rank f among order in
             omega (arith, y)
 
-        more-filled : ChannelsFilled (rank + 1) after
+        more-filled : RanksFilled (rank + 1) after
         more-filled points end e i q h g =
             by-cases
             (decLt q rank)
@@ -173,7 +169,7 @@ module _ (s : List ℕ) (start : ℕ) (stored : List Bool) (count p d : ℕ) whe
               place = omega (arith, gone .place, widths-behind 2 (gone .before) (channel ∷ []));
               index = let z : from + d ≡ (rank + 1) * d = omega (arith, gone .index) in z ∙ ap (λ r. r * d) (sym n);
               many = fills .many ∙ gone .many;
-              filled = let z : rank + 1 ≡ length (gone .before ++ (channel ∷ [])) = sym n in subst (λ r. ChannelsFilled r after) z more-filled;
+              filled = let z : rank + 1 ≡ length (gone .before ++ (channel ∷ [])) = sym n in subst (λ r. RanksFilled r after) z more-filled;
             }
 
   -- where none is left, the numbers are those of the points

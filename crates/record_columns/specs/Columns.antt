@@ -1,17 +1,18 @@
 -- The columns of a record that is a whole slice, and what becomes of a buffer that is lent for them.
+use mathlib.Core.Path.{_≡_}
 use mathlib.Core.Bool.{cond}
 use mathlib.Core.List.{List}
 use Prim.Native.Nat.{ℕ, _*_}
 use lib.Dec.{eqb, ltb}
 use lib.IntN.{ℤ}
 use lib.ListN.{length}
-use Rattle.formats.specs.Reader.{Answer, ok, short, bad}
+use Rattle.formats.specs.Reader.{Answer, ok, short, bad, run}
 use Rattle.formats.specs.declared.Failure.the-variants.{Short, Bad}
 use Rattle.refusals.specs.Table.{refusalOf}
 use Rattle.refusals.specs.declared.Refusal.the-variants.{LeftOver, Amount}
 use Rattle.orders.specs.Orders.{size, valuesOf}
 use Rattle.orders.specs.declared.Order.the-variants.{Column}
-use Rattle.records.specs.Record.{Record, stored}
+use Rattle.records.specs.Record.{Record, fullRecord, stored}
 use Rattle.record_columns.specs.declared.Filled.{Filled}
 use Rattle.record_columns.specs.declared.Filled.the-variants.{Columns, Refused}
 
@@ -37,3 +38,7 @@ columnsRead bytes (ok r n) values =
     cond (ltb n bytes) (filling (Refused (LeftOver n)) values) (cond (eqb (length values) (amount r)) (filling Columns (columns r)) (filling (Refused Amount) values))
 columnsRead bytes short values = filling (Refused (refusalOf Short)) values
 columnsRead bytes (bad k p) values = filling (Refused (refusalOf (Bad k p))) values
+
+-- what is promised of the bytes s: r is answered, and the buffer that held `values` holds `after` then
+abbrev pub ReadColumns : (s : List ℕ) (values : List ℤ) → Filled → (after : List ℤ) → Type 0
+ReadColumns s values r after = filling r after ≡ columnsRead (length s) (run fullRecord s) values

@@ -33,8 +33,8 @@ use Rattle.demands.specs.Reading.{extended-told}
 use Rattle.demands.specs.RoundTripLaws.{in-a-row}
 use Rattle.demands.specs.Saying.{saying, numbersOf}
 use Rattle.demands.specs.JudgingLaws.{whole-read, whole-fits}
-use Rattle.record_columns.specs.Columns.{Filling, filling, amount, columns, columnsRead}
-use Rattle.record_columns.specs.Demands.{ReadColumns, Good, RefusesInOrder, HoldsTheSame, WritesBack, ReadsBack}
+use Rattle.record_columns.specs.Columns.{Filling, filling, amount, columns, columnsRead, ReadColumns}
+use Rattle.record_columns.specs.Demands.{Good, RefusesInOrder, HoldsTheSame, WritesBack, ReadsBack}
 use Rattle.record_columns.specs.declared.Filled.the-variants.{Columns, Refused}
 
 -- ---- A good record is one that was read

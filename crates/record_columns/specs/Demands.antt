@@ -7,31 +7,21 @@ use denote.Ref.{RefT, now}
 use lib.IntN.{ℤ}
 use lib.ListN.{length, take, drop}
 use Rattle.formats.specs.Bytes.{Bytes}
-use Rattle.formats.specs.Lent.{writing}
-use Rattle.formats.specs.Reader.{run}
 use Rattle.refusals.specs.declared.Refusal.{Refusal}
 use Rattle.refusals.specs.declared.Refusal.the-variants.{Amount}
 use Rattle.channels.specs.declared.Description.{Description}
 use Rattle.channels.specs.declared.Place.{Place}
 use Rattle.orders.specs.Orders.{size, Same}
-use Rattle.records.specs.Record.{fullRecord, stored}
+use Rattle.records.specs.Record.{stored}
 use Rattle.record_reading.specs.declared.Judged.{Judged}
 use Rattle.record_reading.specs.declared.Verdict.the-variants as verdict
-use Rattle.record_writing.specs.Write.{writeColumnsOf}
 use Rattle.record_writing.specs.declared.Written.{Written}
 use Rattle.record_writing.specs.declared.Written.the-variants as written
 use Rattle.demands.specs.Promises as promises
 use Rattle.demands.specs.Saying.{numbersOf}
-use Rattle.record_columns.specs.Columns.{filling, columnsRead}
+use Rattle.record_columns.specs.Columns.{ReadColumns}
 use Rattle.record_columns.specs.declared.Filled.{Filled}
 use Rattle.record_columns.specs.declared.Filled.the-variants.{Columns, Refused}
-
--- what the functions promise: the buffer that held `values` holds `after` then, and the output that held `out` holds `bytes`
-abbrev pub ReadColumns : (s : List ℕ) (values : List ℤ) → Filled → (after : List ℤ) → Type 0
-ReadColumns s values r after = filling r after ≡ columnsRead (length s) (run fullRecord s) values
-
-abbrev pub WriteColumns : Description → (count : ℕ) (values : List ℤ) (wanted : Bool) (extended out : List ℕ) → Written → (bytes : List ℕ) → Type 0
-WriteColumns d count values wanted extended out r bytes = writing r bytes ≡ writeColumnsOf d count values wanted extended out
 
 -- judge_whole said of the whole slice s that it is a record: its description, its count, and whether it has extended data
 pub record Good (s : List ℕ) (d : Description) (count : ℕ) (wanted : Bool) : Type 0 where
@@ -69,13 +59,13 @@ WritesBack =
     (s : RefT (List ℕ)) → Bytes (now s) → (d : Description) (count : ℕ) (wanted : Bool) → Good (now s) d count wanted
     → (extended : RefT (List ℕ)) → promises.extended s extended
     → (values after : List ℤ) → ReadColumns (now s) values Columns after
-    → (out : List ℕ) → length (now s) ≤ length out → (r : Written) (bytes : List ℕ) → WriteColumns d count after wanted (now extended) out r bytes
+    → (out : List ℕ) → length (now s) ≤ length out → (r : Written) (bytes : List ℕ) → promises.writeColumns d count after wanted (now extended) out r bytes
     → (r ≡ written.Record (length (now s))) × (bytes ≡ now s ++ drop (length (now s)) out)
 
 -- what write_columns wrote, read_columns fills in again, in as many numbers. A description always has sixteen channels, and what is lent as extended data are bytes.
 abbrev pub ReadsBack : Type 0
 ReadsBack =
     (d : Description) → length (d .channels) ≡ 16 → (count : ℕ) (values : List ℤ) (wanted : Bool) (extended : List ℕ) → Bytes extended
-    → (out : List ℕ) (n : ℕ) (bytes : List ℕ) → WriteColumns d count values wanted extended out (written.Record n) bytes
+    → (out : List ℕ) (n : ℕ) (bytes : List ℕ) → promises.writeColumns d count values wanted extended out (written.Record n) bytes
     → (lent : List ℤ) → length lent ≡ length values → (r : Filled) (after : List ℤ) → ReadColumns (take n bytes) lent r after
     → (r ≡ Columns) × (after ≡ values)

@@ -15,7 +15,7 @@ abbrev pub NumberAt : List ℕ → (channel at : ℕ) → ℤ → Type 0
 NumberAt s channel at r = (v : ℤ) (end : ℕ) → readAt (sample 2 channel) s at ≡ ok v end → r ≡ v
 
 -- the numbers of a channel, which stand a width apart among the bytes s, were filled in a step apart, and every other is as it was
-pub record Filled (s : List ℕ) (channel start width from step count : ℕ) (before after : List ℤ) : Type 0 where
+pub record ChannelFilled (s : List ℕ) (channel start width from step count : ℕ) (before after : List ℤ) : Type 0 where
   pub many : length after ≡ length before
   pub numbers : (i : ℕ) → i < count → NumberAt s channel (start + i * width) (getD after (from + i * step) (pos 0))
   pub others : (at : ℕ) → ((i : ℕ) → i < count → at ≡ from + i * step → ⊥) → getD after at (pos 0) ≡ getD before at (pos 0)

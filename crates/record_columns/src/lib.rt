@@ -6,13 +6,11 @@ use refusals::Refusal;
 ghost use mathlib.Core.Path.{_≡_};
 ghost use Prim.Native.Nat.{_+_, _*_, _≤_, _<_};
 ghost use lib.ListN.{length};
-ghost use Rattle.formats.specs.Reader.{run};
 ghost use Rattle.points.specs.Points.{sampleSize, width as pointWidth};
 ghost use Rattle.orders.specs.Orders.{size};
 ghost use Rattle.orders.specs.Parts.{AllAt};
-ghost use Rattle.records.specs.Record.{fullRecord};
-ghost use Rattle.record_columns.specs.Columns.{filling, columnsRead};
-ghost use Rattle.record_columns.specs.Parts.{NumberAt, Filled as ColumnFilled, PointsFilled};
+ghost use Rattle.record_columns.specs.Columns.{ReadColumns};
+ghost use Rattle.record_columns.specs.Parts.{NumberAt, ChannelFilled, PointsFilled};
 
 // A channel's number in a sample point that was judged: so the byte of S is not asked again whether it is admitted.
 // It is handed the very bytes that it has: so the compiler sees that they are there.
@@ -42,7 +40,7 @@ fn fill_channel(
     step: usize,
 )
     requires { ⌜ (width ≤ 32) × (0 < step) × (step ≤ 16) × AllAt (λ at. at + sampleSize 2 channel ≤ length (now bytes)) width count start × AllAt (λ i. i < length (now values)) step count from ⌝ }
-    ensures { λ r. ⌜ ColumnFilled (now (bytes .entry)) channel start width from step count (now (values .entry)) (now (values .exit)) ⌝ }
+    ensures { λ r. ⌜ ChannelFilled (now (bytes .entry)) channel start width from step count (now (values .entry)) (now (values .exit)) ⌝ }
 {
     let mut at = start;
     let mut index = from;
@@ -92,7 +90,7 @@ pub enum Filled {
 // The columns of a record that is a whole slice. Its own refusals come first, and then 13 where the buffer has another amount
 // than its count times its stored channels: on each the buffer is as it was.
 pub fn read_columns(bytes: &[u8], values: &mut [i32]) -> Filled
-    ensures { λ r. ⌜ filling r (now (values .exit)) ≡ columnsRead (length (now (bytes .entry))) (run fullRecord (now (bytes .entry))) (now (values .entry)) ⌝ }
+    ensures { λ r. ⌜ ReadColumns (now (bytes .entry)) (now (values .entry)) r (now (values .exit)) ⌝ }
 {
     let heading = record_fronts::front_at(bytes, 0);
     let front = heading.front;

@@ -9,7 +9,7 @@ use mir.ValLaws.{toZ-ofZ}
 use lib.IntN.{ℤ}
 use lib.ListN.{length, set}
 use Rattle.points.specs.Points.{sampleSize}
-use Rattle.record_columns.specs.Parts.{NumberAt, Filled}
+use Rattle.record_columns.specs.Parts.{NumberAt, ChannelFilled}
 use Rattle.record_columns.proofs.Filling.{none-filled, next-filled}
 use borrow.Author.Needs.{needs}
 use Rattle.record_columns.proofs.fill_channel.Statement.{statement}
@@ -17,14 +17,14 @@ use Rattle.record_columns.proofs.fill_channel.Tie as tie
 
 abbrev Inv-loop : tie.InvT-loop
 Inv-loop bytes start width channel count values₀ from step at₀ index₀ i₀ values at index i =
-    (i ≤ count) × (at ≡ start + i * width) × (index ≡ from + i * step) × Filled bytes channel start width from step i values₀ values
+    (i ≤ count) × (at ≡ start + i * width) × (index ≡ from + i * step) × ChannelFilled bytes channel start width from step i values₀ values
 
 abbrev μ-loop : tie.MeasureT-loop
 μ-loop bytes start width channel count values₀ from step at₀ index₀ i₀ values at index i = count - i
 
 -- the first n numbers are filled in
 abbrev FilledTo : tie.Start Inv-loop μ-loop → ℕ → List ℤ → Type 0
-FilledTo s n values = Filled (s .args .bytes .now) (s .args .channel) (s .args .start) (s .args .width) (s .args .from) (s .args .step) n (s .args .values .now) values
+FilledTo s n values = ChannelFilled (s .args .bytes .now) (s .args .channel) (s .args .start) (s .args .width) (s .args .from) (s .args .step) n (s .args .values .now) values
 
 loop-holds : tie.Need-loop-holds Inv-loop μ-loop
 loop-holds c = (omega arith, omega arith, omega arith, none-filled _ _ _ _ _ _ _)

@@ -9,8 +9,8 @@ use Rattle.formats.specs.Number as reader
 use Rattle.formats.specs.Reader.{ok, readAt}
 use Rattle.channels.specs.Channel.{widthOf}
 use Rattle.stored_numbers.specs.NumberLaws.{part-read}
-use Rattle.points.specs.SampleLaws.{wide-size, wide-ok}
-use Rattle.record_columns.proofs.Filling.{switch-size, number-is, state-read}
+use Rattle.points.specs.SampleLaws.{switch-size, wide-size, wide-ok}
+use Rattle.record_columns.proofs.Filling.{number-is, state-read}
 use borrow.Author.Needs.{needs}
 use Rattle.record_columns.proofs.sample_at.Statement.{statement}
 use Rattle.record_columns.proofs.sample_at.Tie as tie
