@@ -58,34 +58,20 @@ module _ (count k : ℕ) where
   strides-within r g Point = omega arith
   strides-within r g Column = omega (arith, mul-comm count k, mul-le-mul-right {m = suc r} {n = k} count (omega arith))
 
-  -- every index below the amount is that of a point and a rank
+  -- every index below the amount is that of its point and its rank
   pub record Stands (order : Order) (at : ℕ) : Type 0 where
-    pub point : ℕ
-    pub rank : ℕ
-    pub counted : point < count
-    pub among : rank < k
-    pub is : at ≡ index order count k point rank
+    pub counted : pointAt order count k at < count
+    pub among : rankAt order count k at < k
+    pub is : at ≡ index order count k (pointAt order count k at) (rankAt order count k at)
 
   pub stands : (order : Order) (at : ℕ) → at < count * k → Stands order at
-  unfolding step stride
+  unfolding pointAt rankAt step stride
   stands Point at h =
       let some : 0 < k = positive k count (rw (mul-comm count k) at h) in
-      record {
-        point = at / k;
-        rank = at % k;
-        counted = div-lt-iff-lt-mul some .1 h;
-        among = mod-lt at some;
-        is = sym (div-add-mod' at k) ∙ omega arith;
-      }
+      record { counted = div-lt-iff-lt-mul some .1 h; among = mod-lt at some; is = sym (div-add-mod' at k) ∙ omega arith }
   stands Column at h =
       let some : 0 < count = positive count k h in
-      record {
-        point = at % count;
-        rank = at / count;
-        counted = mod-lt at some;
-        among = div-lt-iff-lt-mul some .1 (rw (mul-comm count k) at h);
-        is = sym (div-add-mod' at count) ∙ omega arith;
-      }
+      record { counted = mod-lt at some; among = div-lt-iff-lt-mul some .1 (rw (mul-comm count k) at h); is = sym (div-add-mod' at count) ∙ omega arith }
 
   -- so two lists of that amount are the same where they hold the same number for each point and rank
   pub same-values : (order : Order) (a b : List ℤ) → length a ≡ count * k → length b ≡ count * k
@@ -93,7 +79,7 @@ module _ (count k : ℕ) where
   same-values order a b m n h =
       ext-getD (pos 0) a b (m ∙ sym n) (λ at q.
       let s = stands order at (omega (arith, m)) in
-      rw (s .is) (h (s .point) (s .rank) (s .counted) (s .among)))
+      ap (λ j. getD a j (pos 0)) (s .is) ∙ h _ _ (s .counted) (s .among) ∙ sym (ap (λ j. getD b j (pos 0)) (s .is)))
 
 pub step-within : (k : ℕ) → 0 < k → k ≤ 16 → (order : Order) → (0 < step order k) × (step order k ≤ 16)
 unfolding step

@@ -13,7 +13,7 @@ ghost use Rattle.record_columns.specs.Columns.{ReadColumns};
 ghost use Rattle.record_columns.specs.Parts.{NumberAt, ChannelFilled, PointsFilled};
 
 // A channel's number in a sample point that was judged: so the byte of S is not asked again whether it is admitted.
-// It is handed the very bytes that it has: so the compiler sees that they are there.
+// `number_at` is handed the very bytes that it asks for: so the compiler sees that they are there.
 fn sample_at(bytes: &[u8], at: usize, channel: usize) -> i32
     requires { ⌜ at + sampleSize 2 channel ≤ length (now bytes) ⌝ }
     ensures { λ r. ⌜ NumberAt (now (bytes .entry)) channel at r ⌝ }

@@ -209,7 +209,7 @@ fn write_in(
     }
 }
 
-// From values point by point.
+// A record is written from values point by point, as `write_in` has it.
 pub fn write(
     description: Description,
     count: usize,
@@ -231,7 +231,7 @@ pub fn write(
     )
 }
 
-// From values column by column (request L9). They are judged in point order all the same.
+// The same from values column by column (request L9). They are judged in point order all the same.
 pub fn write_columns(
     description: Description,
     count: usize,
