@@ -1,11 +1,11 @@
 -- Numbers in point order and by column: each index is that of one point and one rank, both orders hold the same points, and points laid out are those points.
 use mathlib.Core.Path.{_≡_, refl, sym, ap, _∙_}
-use mathlib.Core.List.{List, [], _∷_, _++_, flatten}
+use mathlib.Core.List.{List, [], _∷_, flatten}
 use Prim.Native.Nat.{ℕ, zero, suc, _+_, _*_, _/_, _%_, _≤_, _<_}
 use native.Mathlib.Nat.{mul-comm, mul-le-mul-right, mul-add-div-right, mul-add-mod-self-right, div-eq-of-lt, mod-eq-of-lt, mod-lt, div-add-mod', div-lt-iff-lt-mul}
 use native.Mathlib.Omega.{arith}
 use lib.IntN.{ℤ, pos}
-use lib.ListN.{length, getD, length-append, length-map}
+use lib.ListN.{length, getD, length-append, length-map, List·getD-append, List·getD-map}
 use lib.Seq.{getD-append-add, ext-getD}
 use Rattle.formats.specs.Writes.{All}
 use Rattle.orders.specs.Orders.{step, stride, index, Same, numbersFrom, pointsFrom, pointsOf, column, columnsFrom, valuesOf}
@@ -170,11 +170,6 @@ module _ (count k : ℕ) where
 
 -- ---- Points laid out
 
-in-first : (p l : List ℤ) (m : ℕ) → m < length p → getD (p ++ l) m (pos 0) ≡ getD p m (pos 0)
-in-first [] l m h = absurd (omega arith)
-in-first (v ∷ p) l zero h = refl
-in-first (v ∷ p) l (suc m) h = in-first p l m (omega arith)
-
 -- lines of n numbers, laid in one row
 module _ (n : ℕ) where
   flat-length : (l : List (List ℤ)) → All (λ p. length p ≡ n) l → length (flatten l) ≡ length l * n
@@ -187,17 +182,15 @@ module _ (n : ℕ) where
   flat-at [] h q m f g = absurd (omega arith)
   flat-at (p ∷ l) h zero m f g =
       let z : 0 * n + m ≡ m = omega arith in
-      rw z (in-first p (flatten l) m (omega (arith, h .0)))
+      rw z (List·getD-append p (flatten l) (pos 0) m (omega (arith, h .0)))
   flat-at (p ∷ l) h (suc q) m f g =
       let z : suc q * n + m ≡ length p + (q * n + m) = omega (arith, h .0) in
       rw z (getD-append-add p (flatten l) (q * n + m) (pos 0) ∙ flat-at l (h .1) q m (omega arith) g)
 
 -- the columns, each with a number of every point
-column-at : (r : ℕ) (points : List (List ℤ)) (i : ℕ) → i < length points → getD (column r points) i (pos 0) ≡ getD (getD points i []) r (pos 0)
+column-at : (r : ℕ) (points : List (List ℤ)) (i : ℕ) → getD (column r points) i (pos 0) ≡ getD (getD points i []) r (pos 0)
 unfolding column
-column-at r [] i h = absurd (omega arith)
-column-at r (p ∷ points) zero h = refl
-column-at r (p ∷ points) (suc i) h = column-at r points i (omega arith)
+column-at r points i = List·getD-map (λ point. getD point r (pos 0)) points i []
 
 column-length : (r : ℕ) (points : List (List ℤ)) → length (column r points) ≡ length points
 unfolding column
@@ -235,7 +228,7 @@ module _ (k : ℕ) (points : List (List ℤ)) (sizes : All (λ p. length p ≡ k
       rw z
       (flat-at (length points) (columnsFrom k 0 points) (columns-sizes k 0 points) r i (omega (arith, columns-many k 0 points)) h
       ∙ ap (λ l. getD l i (pos 0)) (columns-at k 0 points r g)
-      ∙ column-at (0 + r) points i h
+      ∙ column-at (0 + r) points i
       ∙ let y : 0 + r ≡ r = omega arith in ap (λ n. getD (getD points i []) n (pos 0)) y)
 
   -- so points laid out are those points

@@ -21,6 +21,7 @@ use Rattle.channels.specs.Channel.{S}
 use Rattle.tip_switch.specs.Switch.{admitted}
 use Rattle.points.specs.Points.{sample, point, storedFrom, channels, widths, width}
 use Rattle.points.specs.Parts.{switched}
+use Rattle.points.specs.Laws.{widths-behind}
 use Rattle.points.specs.SampleLaws.{Wide, wide-size, wide-ok, wide-short, switch-short, switch-ok, switch-bad}
 use Rattle.points.proofs.Samples.{each-jumps, no-switch, stored-in, width-in}
 
@@ -40,11 +41,6 @@ module _ (s : List ℕ) (at width offset : ℕ) where
   switched-ends h e = rw (lt-leb (length s) (at + offset) h, e)
 
 -- ---- A point, by its switch
-
-widths-append : (w : ℕ) (l m : List ℕ) → widths w (l ++ m) ≡ widths w l + widths w m
-unfolding widths
-widths-append w [] m = omega arith
-widths-append w (channel ∷ l) m = rw (widths-append w l m) (omega arith)
 
 -- the numbers before the switch are passed over, if they are there
 module _ (w : ℕ) (m s : List ℕ) where
@@ -96,7 +92,7 @@ module _ (w : ℕ) (before behind : List ℕ) (h : All Wide before) (g : All Wid
 
   wide : whole ≡ offset + (1 + widths w behind)
   unfolding widths
-  wide = widths-append w before (S ∷ behind)
+  wide = widths-behind w before (S ∷ behind)
 
   at-switch : at + offset ≤ length s → told (readAt (each (S ∷ behind) (sample w)) s (at + offset)) ≡ switched s at whole offset
   unfolding told
@@ -152,7 +148,7 @@ module _ (w : ℕ) (stored : List Bool) (e : getD stored S false ≡ true) where
 
   sized : widths w (channels stored) ≡ widths w before + widths w (storedFrom S (drop S stored))
   unfolding channels
-  sized = ap (widths w) (stored-split S 0 stored) ∙ widths-append w before (storedFrom S (drop S stored))
+  sized = ap (widths w) (stored-split S 0 stored) ∙ widths-behind w before (storedFrom S (drop S stored))
 
   -- where a point with a switch ends
   pub switch-point : (s : List ℕ) (at : ℕ) → at ≤ length s

@@ -87,25 +87,27 @@ fn whole_points(room: usize, width: usize, count: usize) -> usize
 }
 
 // Points one by one: where they have a switch, each of its bytes is looked at. How many are whole is asked once, and not at each.
+// The place that moves on is the switch's own, a width from one point to the next.
 fn walk_points(bytes: &[u8], start: usize, width: usize, offset: usize, count: usize) -> Outcome
     requires { ⌜ (start ≤ length (now bytes)) × (offset < width) × (width ≤ 32) ⌝ }
     ensures { λ r. ⌜ r ≡ repeated (λ at. switched (now (bytes .entry)) at width offset) count start ⌝ }
 {
     let whole = whole_points(bytes.len() - start, width, count);
-    let mut at = start;
+    let mut switch = start + offset;
     let mut i: usize = 0;
     while i < whole {
-        let state = tip_switch::state_of(bytes[at + offset]);
+        let state = tip_switch::state_of(bytes[switch]);
         let Switch::State(_) = state else {
-            return Outcome::Failed(Failure::Bad(8, at + offset));
+            return Outcome::Failed(Failure::Bad(8, switch));
         };
-        at += width;
+        switch += width;
         i += 1;
     }
+    let end = start + whole * width;
     if whole < count {
-        return Outcome::Failed(cut(bytes, at, offset));
+        return Outcome::Failed(cut(bytes, end, offset));
     }
-    Outcome::Done(at)
+    Outcome::Done(end)
 }
 
 // Points that start within the bytes.
