@@ -9,12 +9,13 @@ use denote.Ref.{RefT, now}
 use lib.ListN.{length, take, getD}
 use Rattle.formats.specs.Bytes.{Bytes}
 use Rattle.formats.specs.Law.{whole}
-use Rattle.formats.specs.Reader.{ok, run}
+use Rattle.formats.specs.Reader.{Answer, ok, run}
+use Rattle.channels.specs.declared.Description.{Description}
 use Rattle.channels.specs.declared.Place.{Place}
 use Rattle.orders.specs.Orders.{size}
 use Rattle.orders.specs.OrderLaws.{size-at}
 use Rattle.values.specs.ValueLaws.{valid-sizes}
-use Rattle.records.specs.Record.{fullRecord, included, stored, IsRecord, present, extendedBytes}
+use Rattle.records.specs.Record.{Record, fullRecord, included, stored, IsRecord, present, extendedBytes}
 use Rattle.records.specs.Demands.{write-after-read}
 use Rattle.record_reading.specs.declared.Verdict.the-variants as verdict
 use Rattle.record_reading.specs.declared.Judged.{Judged}
@@ -29,6 +30,19 @@ unfolding extendedBytes
 extended-given true extended = refl
 extended-given false extended = refl
 
+-- the record that was read, and what a judgement says of it
+pub record Spoken (a : Answer Record) (d : Description) (n count : ℕ) (wanted : Bool) : Type 0 where
+  pub value : Record
+  pub read : a ≡ ok value n
+  pub described : d ≡ value .description
+  pub counted : count ≡ length (value .points)
+  pub presence : wanted ≡ present (value .extended)
+
+pub spoken : (a : Answer Record) (q : Record) (n : ℕ) → a ≡ ok q n → (r : Judged) → r ≡ saying n q → (count : ℕ) (wanted : Bool) → r .verdict ≡ verdict.Record n count wanted → Spoken a (r .description) n count wanted
+spoken a q n read r told count wanted said =
+    let same : verdict.Record n count wanted ≡ verdict.Record n (length (q .points)) (present (q .extended)) = sym said ∙ ap (λ x. x .verdict) told in
+    record { value = q; read = read; described = ap (λ x. x .description) told; counted = cc same; presence = cc same }
+
 -- the record that judge spoke of
 pub record Meant (s : List ℕ) (r : Judged) (n count : ℕ) (wanted : Bool) : Type 0 where
   pub within : n ≤ length s
@@ -40,18 +54,17 @@ pub record Meant (s : List ℕ) (r : Judged) (n count : ℕ) (wanted : Bool) : T
 
 pub meant : (s : List ℕ) → Bytes s → (r : Judged) → promises.judge s r → (n count : ℕ) (wanted : Bool) → r .verdict ≡ verdict.Record n count wanted → Meant s r n count wanted
 meant s bytes r judges n count wanted said =
-    let taken = record-read (run fullRecord s) n (record { count = count; extended = wanted; accepted = ap (λ x. x .verdict) (sym judges) ∙ said }) in
-    let value = taken .0 in
-    let law = write-after-read s value n bytes (taken .1) in
-    let told : r ≡ saying n value = judges ∙ read-judged (run fullRecord s) value n (taken .1) in
-    let same : verdict.Record n count wanted ≡ verdict.Record n (length (value .points)) (present (value .extended)) = sym said ∙ ap (λ x. x .verdict) told in
+    let a = run fullRecord s in
+    let taken = record-read a n (record { count = count; extended = wanted; accepted = ap (λ x. x .verdict) (sym judges) ∙ said }) in
+    let x = spoken a (taken .0) n (taken .1) r (judges ∙ read-judged a (taken .0) n (taken .1)) count wanted said in
+    let law = write-after-read s (x .value) n bytes (x .read) in
     record {
-      within = whole fullRecord s (taken .1) .within;
-      bytes = record { value = value; valid = law .0; written = law .1 };
-      read = taken .1;
-      described = ap (λ x. x .description) told;
-      counted = cc same;
-      presence = cc same;
+      within = whole fullRecord s (x .read) .within;
+      bytes = record { value = x .value; valid = law .0; written = law .1 };
+      read = x .read;
+      described = x .described;
+      counted = x .counted;
+      presence = x .presence;
     }
 
 -- the numbers that point handed out, point by point, are those of the record's points

@@ -136,6 +136,10 @@ module _ {A B : Type 0} (r : Reader A) (k : A → Reader B) (s : List ℕ) (at :
   unfolding andThen
   at-bind-ok e = rw e at (at-bind k r s at)
 
+-- what is read is one value
+pub ok-value : {A : Type 0} {u v : A} {m n : ℕ} → ok u m ≡ ok v n → u ≡ v
+ok-value e = cc
+
 -- what the first part was read as, where both were
 pub then-ok : {A B : Type 0} (x : Answer A) (k : A → ℕ → Answer B) {v : B} {n : ℕ} → andThen x k ≡ ok v n → (u : A) × (m : ℕ) × (x ≡ ok u m) × (k u m ≡ ok v n)
 unfolding andThen

@@ -11,7 +11,8 @@ use lib.IntN.{ℤ, pos}
 use lib.ListN.{length, getD, set, drop, length-set, length-append}
 use lib.Seq.{getD-set-same, getD-set-other}
 use Rattle.formats.specs.Bytes.{impossible}
-use Rattle.formats.specs.Reader.{Answer, ok, readAt, times}
+use Rattle.formats.specs.Compose.{ok-value}
+use Rattle.formats.specs.Reader.{ok, readAt, times}
 use Rattle.channels.specs.Channel.{S}
 use Rattle.tip_switch.specs.Switch.{admitted, stateOf}
 use Rattle.points.specs.Points.{storedFrom, channels, sample, point, sampleSize, widths, width}
@@ -30,10 +31,7 @@ use Rattle.record_columns.specs.Parts.{NumberAt, ChannelFilled, PointsFi
 
 -- what is read is one number
 pub number-is : (s : List ℕ) (channel at : ℕ) {v : ℤ} {end : ℕ} → readAt (sample 2 channel) s at ≡ ok v end → NumberAt s channel at v
-number-is s channel at {v} {end} e u n q = same (sym e ∙ q)
-  where
-    same : _≡_ {A = Answer ℤ} (ok v end) (ok u n) → v ≡ u
-    same h = cc
+number-is s channel at e u n q = ok-value (sym e ∙ q)
 
 -- of S it is the state that its byte stands for, where that was admitted
 pub state-read : (s : List ℕ) (channel at : ℕ) → channel ≡ S → at < length s → NumberAt s channel at (stateOf (getD s at 0))

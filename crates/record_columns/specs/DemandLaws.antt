@@ -22,7 +22,7 @@ use Rattle.orders.specs.Orders.{size, Same, valuesOf}
 use Rattle.orders.specs.OrderLaws.{points-many, values-many, values-again, both-orders}
 use Rattle.orders.specs.declared.Order.the-variants.{Point, Column}
 use Rattle.values.specs.ValueLaws.{valid-sizes, fits-valid}
-use Rattle.records.specs.Record.{Record, fullRecord, stored, present}
+use Rattle.records.specs.Record.{Record, fullRecord, stored}
 use Rattle.records.specs.Demands.{write-after-read}
 use Rattle.record_reading.specs.Verdict.{verdictFrom, judged, unjudged, judgedWhole}
 use Rattle.record_reading.specs.declared.Verdict.the-variants as verdict
@@ -30,8 +30,8 @@ use Rattle.record_writing.specs.Write.{recordIn, writeIn}
 use Rattle.record_writing.specs.RoundTrips as trips
 use Rattle.record_writing.specs.declared.Written.the-variants as written
 use Rattle.demands.specs.Reading.{extended-told}
-use Rattle.demands.specs.RoundTripLaws.{in-a-row}
-use Rattle.demands.specs.Saying.{saying, numbersOf}
+use Rattle.demands.specs.RoundTripLaws.{Spoken, spoken, in-a-row}
+use Rattle.demands.specs.Saying.{numbersOf}
 use Rattle.demands.specs.JudgingLaws.{whole-read, whole-fits}
 use Rattle.record_columns.specs.Columns.{Filling, filling, amount, columns, columnsRead, ReadColumns}
 use Rattle.record_columns.specs.Demands.{Good, RefusesInOrder, HoldsTheSame, WritesBack, ReadsBack}
@@ -39,25 +39,12 @@ use Rattle.record_columns.specs.declared.Filled.the-variants.{Columns, R
 
 -- ---- A good record is one that was read
 
-record Taken (s : List ℕ) (d : Description) (count : ℕ) (wanted : Bool) : Type 0 where
-  value : Record
-  read : run fullRecord s ≡ ok value (length s)
-  described : d ≡ value .description
-  counted : count ≡ length (value .points)
-  presence : wanted ≡ present (value .extended)
-
-taken : (s : List ℕ) (d : Description) (count : ℕ) (wanted : Bool) → Good s d count wanted → Taken s d count wanted
+taken : (s : List ℕ) (d : Description) (count : ℕ) (wanted : Bool) → Good s d count wanted → Spoken (run fullRecord s) d (length s) count wanted
 taken s d count wanted good =
-    let x = whole-read (length s) (run fullRecord s) (length s) (record { count = count; extended = wanted; accepted = ap (λ j. j .verdict) (sym (good .judges)) ∙ good .said }) in
-    let told : good .judged ≡ saying (length s) (x .0) = good .judges ∙ ap (judgedWhole (length s)) (x .1) ∙ whole-fits (length s) (x .0) (length s) (omega arith) in
-    let same : verdict.Record (length s) count wanted ≡ verdict.Record (length s) (length (x .0 .points)) (present (x .0 .extended)) = sym (good .said) ∙ ap (λ j. j .verdict) told in
-    record {
-      value = x .0;
-      read = x .1;
-      described = sym (good .described) ∙ ap (λ j. j .description) told;
-      counted = cc same;
-      presence = cc same;
-    }
+    let n = length s in
+    let x = whole-read n (run fullRecord s) n (record { count = count; extended = wanted; accepted = ap (λ j. j .verdict) (sym (good .judges)) ∙ good .said }) in
+    let told = good .judges ∙ ap (judgedWhole n) (x .1) ∙ whole-fits n (x .0) n (omega arith) in
+    subst (λ e. Spoken (run fullRecord s) e n count wanted) (good .described) (spoken (run fullRecord s) (x .0) n (x .1) (good .judged) told count wanted (good .said))
 
 -- ---- What becomes of the buffer, by the amount
 
@@ -97,7 +84,7 @@ own-refusal bytes short values refusal e = let z : refusalOf Short ≡ refusal =
 own-refusal bytes (bad k p) values refusal e = let z : refusalOf (Bad k p) ≡ refusal = cc in ap (λ x. filling (Refused x) values) z
 
 module _ (s : List ℕ) (values : List ℤ) (d : Description) (count : ℕ) (wanted : Bool) (good : Good s d count wanted) where
-  abbrev the-record : Taken s d count wanted
+  abbrev the-record : Spoken (run fullRecord s) d (length s) count wanted
   the-record = taken s d count wanted good
 
   -- the amount, by what judge_whole says

@@ -4,7 +4,7 @@ use mathlib.Core.List.{List}
 use Prim.Native.Nat.{ℕ}
 use Rattle.formats.specs.Bytes.{impossible}
 use Rattle.formats.specs.Reader.{Reader, Answer, ok, short, bad, andThen, readAt, bind, literal}
-use Rattle.formats.specs.Compose.{at-bind, at-bind-ok, at-done}
+use Rattle.formats.specs.Compose.{at-bind, at-bind-ok, at-done, ok-value}
 use Rattle.formats.specs.Told.{told}
 use Rattle.formats.specs.declared.Outcome.the-variants.{Done}
 use Rattle.descriptions.specs.Description.{description}
@@ -12,9 +12,6 @@ use Rattle.records.specs.Record.{Record, identifierBytes, versionBytes, fullRec
 use Rattle.identifications.specs.Identification.{identification}
 
 -- ---- A first part and what follows it
-
-one-value : {A : Type 0} {u v : A} {m n : ℕ} → ok u m ≡ ok v n → u ≡ v
-one-value e = cc
 
 one-place : {m n : ℕ} → Done m ≡ Done n → m ≡ n
 one-place e = cc
@@ -53,5 +50,5 @@ record-described s start {at} {n} {r} place e =
     let counted = parted _ _ s (opened .place) (opened .second) in
     let pointed = parted _ _ s (counted .place) (counted .second) in
     let extended = parted _ _ s (pointed .place) (pointed .second) in
-    let same = ap (λ v. v .description) (one-value (sym (at-done _ s (extended .place)) ∙ extended .second)) in
+    let same = ap (λ v. v .description) (ok-value (sym (at-done _ s (extended .place)) ∙ extended .second)) in
     (channels .place, ap (readAt (description 2) s) (sym (identification-end s start place (identifier .first) (version .first))) ∙ channels .first ∙ ap (λ d. ok d (channels .place)) same)
