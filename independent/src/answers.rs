@@ -1,7 +1,9 @@
 //! The answer that `ask` should give to a line.
 
+mod bodies;
+
 use crate::columns;
-use crate::description::words as channel_words;
+use crate::description::{words as description_words, Format};
 use crate::lookup::{self, LookedUp};
 use crate::record::{self, Place, Record, Step};
 use crate::refusal::Refusal;
@@ -52,6 +54,10 @@ fn read(line: &[u8]) -> Read<String> {
         b"step" => step(&mut words),
         b"template" => Ok(template(&words.bytes()?)),
         b"write-template" => write_template(&mut words),
+        b"body" => bodies::judge(&mut words),
+        b"body-point" => bodies::point(&mut words),
+        b"write-body" => bodies::write(&mut words),
+        b"turn" => bodies::turn(&mut words),
         b"thousandths" => of_numbers(&mut words),
         b"place" => place(&mut words),
         _ => Err(words::NO_QUESTION),
@@ -87,7 +93,7 @@ pub fn values(values: &[i64]) -> String {
 fn verdict(judged: Result<Record, Refusal>) -> String {
     match judged {
         Ok(record) => {
-            let said = channel_words(&record.description);
+            let said = description_words(&record.description);
             format!(
                 "record {} {} {}{said}",
                 record.length,
@@ -146,7 +152,7 @@ fn write(words: &mut Words, order: Order) -> Read<String> {
     let values = words::values(words.next()?).ok_or(words::NOT_NUMBER)?;
     let extended = words::wanted(words.next()?, words::hex).ok_or(words::NOT_BYTES)?;
     let room = words.number(words::ROOM)? as usize;
-    let description = words.channels()?;
+    let description = words.description(Format::Full)?;
     let parts = Parts {
         description,
         count,
@@ -156,16 +162,18 @@ fn write(words: &mut Words, order: Order) -> Read<String> {
     Ok(written(writing::write_from(order, &parts, room), room))
 }
 
-/// Every byte of the room was AA before, and those not written are so still.
 fn written(result: Result<Vec<u8>, Refusal>, room: usize) -> String {
-    let mut output = vec![0xAA; room];
     match result {
-        Ok(bytes) => {
-            output.splice(..bytes.len().min(room), bytes.iter().copied());
-            format!("written {} {}", bytes.len(), hex(&output))
-        }
-        Err(refusal) => format!("{} {}", refusal.text(), hex(&output)),
+        Ok(bytes) => format!("written {} {}", bytes.len(), output(&bytes, room)),
+        Err(refusal) => format!("{} {}", refusal.text(), output(&[], room)),
     }
+}
+
+/// HEX of a room. Every byte of it was AA before, and those not written are so still.
+fn output(bytes: &[u8], room: usize) -> String {
+    let mut output = vec![0xAA; room];
+    output.splice(..bytes.len().min(room), bytes.iter().copied());
+    hex(&output)
 }
 
 fn step(words: &mut Words) -> Read<String> {
@@ -192,7 +200,7 @@ fn template(bytes: &[u8]) -> String {
             maximum,
         }) => {
             let maximum = maximum.map_or("!".to_string(), |maximum| maximum.to_string());
-            let said = description.map_or(" !".to_string(), |said| channel_words(&said));
+            let said = description.map_or(" !".to_string(), |said| description_words(&said));
             format!("template {maximum}{said}")
         }
         Err(refusal) => refusal.text(),
@@ -204,7 +212,7 @@ fn write_template(words: &mut Words) -> Read<String> {
     let maximum = words::wanted(words.next()?, maximum).ok_or(words::NOT_NUMBER)?;
     let room = words.number(words::ROOM)? as usize;
     let wanted = !words.none_wanted();
-    let description = Some(words.channels()?).filter(|_| wanted);
+    let description = Some(words.description(Format::Compact)?).filter(|_| wanted);
     let template = Template {
         description,
         maximum,

@@ -3,7 +3,7 @@
 use std::collections::BTreeSet;
 
 use crate::columns;
-use crate::description::{stored, value_range};
+use crate::description::{stored, value_range, Format};
 use crate::inputs;
 use crate::itself::{parts_of, Counts};
 use crate::mending::{names, outside};
@@ -77,7 +77,8 @@ fn named(counts: &mut Counts, random: &mut Random, mut parts: Parts) {
     let mut put_out = BTreeSet::new();
     for _ in 0..random.below(5).min(parts.values.len()) {
         let number = random.below(parts.values.len());
-        parts.values[number] = outside(random, value_range(channels[number % channels.len()]));
+        let range = value_range(Format::Full, channels[number % channels.len()]);
+        parts.values[number] = outside(random, range);
         put_out.insert(number);
     }
     let count = parts.count as usize;

@@ -16,7 +16,7 @@ pub fn read(bytes: &[u8], lent: &mut [i64]) -> Result<(), Refusal> {
     let mut cursor = Cursor::new(bytes, record.points, 1);
     for (index, channel) in Order::Columns.in_point_order(lent.len(), &channels) {
         // The record was judged good, so no value is refused any more.
-        lent[index] = read_value(&mut cursor, channel)?;
+        lent[index] = read_value(&mut cursor, record.description.mark, channel)?;
     }
     Ok(())
 }

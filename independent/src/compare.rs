@@ -340,11 +340,9 @@ impl Comparison {
 
     fn expect(&mut self, answer: &str) {
         // The first word, and a refusal's number or the reason of an unreadable line.
-        let words = if answer.starts_with("cannot") { 9 } else { 2 };
-        let known = ["refused", "cannot"]
-            .iter()
-            .any(|word| answer.starts_with(word));
-        let taken = if known { words } else { 1 };
+        let known = [("refused ", 2), ("template refused ", 3), ("cannot ", 9)];
+        let is_it = |(begin, _): &&(&str, usize)| answer.starts_with(begin);
+        let taken = known.iter().find(is_it).map_or(1, |(_, words)| *words);
         let key: Vec<&str> = answer.split(' ').take(taken).collect();
         *self.expected.entry(key.join(" ")).or_default() += 1;
     }

@@ -1,5 +1,8 @@
 //! What is said of each channel: inclusion bytes, descriptors and attributes.
-//! The same rules serve a record (002, 7.3.4) and a template (8.2.2); only widths differ.
+//! The same rules serve a record (002, 7.3.4) and a template (8.2.2), and the numbers of a point in
+//! a record (7.4.2) and in a body (8.4); only widths differ, and the mark says which (request L4).
+
+use std::ops::{Deref, DerefMut};
 
 use crate::channels::{bit, CHANNELS, S, X, Y};
 use crate::cursor::Cursor;
@@ -17,6 +20,31 @@ pub enum Format {
     Compact,
 }
 
+impl Format {
+    /// The word of a description's mark.
+    pub fn word(self) -> &'static str {
+        match self {
+            Format::Full => "full",
+            Format::Compact => "compact",
+        }
+    }
+
+    pub fn other(self) -> Format {
+        match self {
+            Format::Full => Format::Compact,
+            Format::Compact => Format::Full,
+        }
+    }
+
+    /// How many bytes a number has, but for those that are as wide in both formats.
+    fn width(self) -> usize {
+        match self {
+            Format::Full => 2,
+            Format::Compact => 1,
+        }
+    }
+}
+
 /// What is said of one channel. Seven flags; the reserved bit isn't in it.
 #[derive(Clone, Copy, Debug, Default, PartialEq, Eq)]
 pub struct Said {
@@ -27,7 +55,40 @@ pub struct Said {
     pub removed: bool,
 }
 
-pub type Description = [Said; 16];
+/// One description for both formats: the sixteen channels, and the mark of the format that it is
+/// of (request L4). It is gone through as its channels are.
+#[derive(Clone, Copy, Debug, PartialEq, Eq)]
+pub struct Description {
+    pub mark: Format,
+    channels: [Said; 16],
+}
+
+impl Description {
+    /// Nothing is said of any channel.
+    pub fn empty(mark: Format) -> Description {
+        let channels = Default::default();
+        Description { mark, channels }
+    }
+
+    /// The same is said of every channel; only the mark is this one.
+    pub fn marked(self, mark: Format) -> Description {
+        Description { mark, ..self }
+    }
+}
+
+impl Deref for Description {
+    type Target = [Said; 16];
+
+    fn deref(&self) -> &[Said; 16] {
+        &self.channels
+    }
+}
+
+impl DerefMut for Description {
+    fn deref_mut(&mut self) -> &mut [Said; 16] {
+        &mut self.channels
+    }
+}
 
 /// The range of a number with or without sign.
 fn number_range(format: Format, signed: bool) -> (i64, i64) {
@@ -50,24 +111,24 @@ pub fn attribute_range(format: Format, channel: usize, attribute: usize) -> (i64
 }
 
 pub fn attribute_width(format: Format, attribute: usize) -> usize {
-    match (format, attribute) {
-        (Format::Full, _) | (_, SCALING) => 2,
-        _ => 1,
+    match attribute {
+        SCALING => 2,
+        _ => format.width(),
     }
 }
 
-/// The range of a channel's number in a sample point (002, 7.4.2).
-pub fn value_range(channel: usize) -> (i64, i64) {
+/// The range of a channel's number in a sample point (002, 7.4.2 and 8.4).
+pub fn value_range(format: Format, channel: usize) -> (i64, i64) {
     match channel {
         S => (0, 1),
-        _ => number_range(Format::Full, CHANNELS[channel].signed),
+        _ => number_range(format, CHANNELS[channel].signed),
     }
 }
 
-pub fn value_width(channel: usize) -> usize {
+pub fn value_width(format: Format, channel: usize) -> usize {
     match channel {
         S => 1,
-        _ => 2,
+        _ => format.width(),
     }
 }
 
@@ -79,17 +140,19 @@ pub fn stored(description: &Description) -> Vec<usize> {
         .collect()
 }
 
-/// How many bytes a point has.
+/// How many bytes a point has in the format of the description's mark.
 pub fn point_size(description: &Description) -> usize {
-    stored(description).into_iter().map(value_width).sum()
+    let width = |channel| value_width(description.mark, channel);
+    stored(description).into_iter().map(width).sum()
 }
 
-/// Inclusion bytes, then a descriptor with its attributes for each included channel.
+/// Inclusion bytes, then a descriptor with its attributes for each included channel. What is read
+/// has the mark of its format.
 pub fn read(cursor: &mut Cursor, format: Format) -> Result<Description, Refusal> {
     // X and Y are the two top bits; without both no record can begin that way.
     let first = cursor.demand(4, |byte| byte >= 0xC0)?;
     let inclusion = u16::from_be_bytes([first, cursor.next()?]);
-    let mut description = Description::default();
+    let mut description = Description::empty(format);
     for (channel, said) in description.iter_mut().enumerate() {
         if inclusion & bit(channel) != 0 {
             *said = read_channel(cursor, format, channel)?;
@@ -117,17 +180,22 @@ fn read_channel(cursor: &mut Cursor, format: Format, channel: usize) -> Result<S
     Ok(said)
 }
 
-/// The writers' judgement: 4, then 11 anywhere, then 12 for the first number in stored order
-/// that is out of its range, channel after channel.
+/// The writers' judgement: 4, then 11 for the other format's mark or anything untidy, then 12. A
+/// number that doesn't fit is 12 and never 11, and under the other mark none is looked at.
 pub fn judge(description: &Description, format: Format) -> Result<(), Refusal> {
     if !description[X].included || !description[Y].included {
         return Err(Refusal::bare(4));
     }
-    if !description.iter().all(tidy) {
+    if description.mark != format || !description.iter().all(tidy) {
         return Err(Refusal::bare(11));
     }
+    judge_numbers(description)
+}
+
+/// 12 for the first number in stored order, channel after channel, that doesn't fit the mark.
+pub fn judge_numbers(description: &Description) -> Result<(), Refusal> {
     for (channel, said) in description.iter().enumerate() {
-        judge_attributes(said, format, channel)?;
+        judge_attributes(said, description.mark, channel)?;
     }
     Ok(())
 }
@@ -153,12 +221,12 @@ fn judge_attributes(said: &Said, format: Format, channel: usize) -> Result<(), R
 }
 
 /// The bytes of a description that `judge` finds good.
-pub fn put(out: &mut Vec<u8>, description: &Description, format: Format) {
+pub fn put(out: &mut Vec<u8>, description: &Description) {
     let included = |channel: &usize| description[*channel].included;
     let inclusion: u16 = (0..16).filter(included).map(bit).sum();
     out.extend(inclusion.to_be_bytes());
     for channel in (0..16).filter(included) {
-        put_channel(out, &description[channel], format, channel);
+        put_channel(out, &description[channel], description.mark, channel);
     }
 }
 
@@ -200,8 +268,13 @@ pub fn word(channel: usize, said: &Said) -> String {
     word
 }
 
-/// Each channel of which something is said, a space before each.
+/// DESCRIPTION as answers have it: the mark and the channels, a space before each.
 pub fn words(description: &Description) -> String {
+    format!(" {}{}", description.mark.word(), channel_words(description))
+}
+
+/// Each channel of which something is said, a space before each.
+pub fn channel_words(description: &Description) -> String {
     let spoken = description
         .iter()
         .enumerate()

@@ -1,5 +1,6 @@
 //! Examples with answers typed from the papers, never worked out here.
 
+use crate::body_examples::{self, BODY_EXAMPLES, MARK_EXAMPLES, TURN_EXAMPLES};
 use crate::columns_examples::{self, COLUMNS_EXAMPLES};
 use crate::compare::Comparison;
 use crate::lookup_examples::{self, LOOKUP_EXAMPLES};
@@ -13,6 +14,7 @@ const CALIBRATION: &str = "examples of request L3";
 const NAMING: &str = "examples of request L2";
 pub const LOOKUP: &str = "examples of request L7";
 pub const COLUMNS: &str = "examples of request L9";
+pub const BODIES: &str = "examples of request L4";
 
 /// M of document 01: a record with no points.
 const M: &[u8] = &[
@@ -35,6 +37,9 @@ pub fn ask_all(comparison: &mut Comparison) {
         (NAMING, NAMING_EXAMPLES),
         (LOOKUP, LOOKUP_EXAMPLES),
         (COLUMNS, COLUMNS_EXAMPLES),
+        (BODIES, BODY_EXAMPLES),
+        (BODIES, TURN_EXAMPLES),
+        (BODIES, MARK_EXAMPLES),
     ] {
         for (line, answer) in examples {
             comparison.ask_typed(kind, line, answer);
@@ -42,6 +47,8 @@ pub fn ask_all(comparison: &mut Comparison) {
     }
     lookup_examples::greatest(comparison);
     columns_examples::greatest(comparison);
+    body_examples::annex_body(comparison);
+    body_examples::greatest(comparison);
     whole_annex_record(comparison);
     listings(comparison);
 }
@@ -52,11 +59,11 @@ pub type Typed = &'static [(&'static str, &'static str)];
 const SCOPE_EXAMPLES: Typed = &[
     (
         "judge 53 44 49 00 20 31 30 00 C0 00 00 00 00 00 00 00 00",
-        "record 17 0 plain X Y",
+        "record 17 0 plain full X Y",
     ),
     (
         "whole 53 44 49 00 20 31 30 00 C0 00 00 00 00 00 00 00 00",
-        "record 17 0 plain X Y",
+        "record 17 0 plain full X Y",
     ),
     (
         "judge 53 44 49 00 20 31 30 00 C0 00 00 00 00 00 00 00",
@@ -84,7 +91,7 @@ const SCOPE_EXAMPLES: Typed = &[
     ),
     (
         "judge 53 44 49 00 20 31 30 00 C0 00 00 00 00 00 00 00 01 7F FF 80 00",
-        "record 21 1 plain X Y",
+        "record 21 1 plain full X Y",
     ),
     (
         "point 0 53 44 49 00 20 31 30 00 C0 00 00 00 00 00 00 00 01 7F FF 80 00",
@@ -92,7 +99,7 @@ const SCOPE_EXAMPLES: Typed = &[
     ),
     (
         "judge 53 44 49 00 20 31 30 00 C0 00 04 00 00 00 00 00 01 80 05",
-        "record 19 1 plain X.constant Y",
+        "record 19 1 plain full X.constant Y",
     ),
     (
         "point 0 53 44 49 00 20 31 30 00 C0 00 04 00 00 00 00 00 01 80 05",
@@ -105,10 +112,10 @@ const SCOPE_EXAMPLES: Typed = &[
     ("thousandths 3 26 1952", "thousandths 2"),
     (
         "judge 53 44 49 00 20 31 30 00 C0 00 04 04 00 00 FF FF FF",
-        "record 17 16777215 plain X.constant Y.constant",
+        "record 17 16777215 plain full X.constant Y.constant",
     ),
     ("template B1 00", "template ! !"),
-    ("template B1 06 81 04 C0 00 00 00", "template ! X Y"),
+    ("template B1 06 81 04 C0 00 00 00", "template ! compact X Y"),
     ("thousandths 3199 22 1151", "thousandths 32000"),
     ("thousandths 512 26 0", "thousandths 500"),
     ("thousandths 65535 0 0", "thousandths 4294901760000"),
@@ -119,14 +126,14 @@ const SCOPE_EXAMPLES: Typed = &[
     ("judge 53 44 49 00 21", "refused 3 4"),
     (
         "judge 53 44 49 00 20 31 30 00 C0 00 08 00 00 00 00 00 00 00 00",
-        "record 19 0 plain X.deviation=0 Y",
+        "record 19 0 plain full X.deviation=0 Y",
     ),
 ];
 
 const ASK_EXAMPLES: Typed = &[
     (
         "judge 53444900 20313000 C000 00 04 00 00 000001 8005",
-        "record 19 1 plain X Y.constant",
+        "record 19 1 plain full X Y.constant",
     ),
     (
         "whole 53444900 20313000 C000 00 00 00 00 000000 FF",
@@ -195,6 +202,33 @@ const ASK_EXAMPLES: Typed = &[
         "refused 12 Y minimum -",
     ),
     ("thousandths 65536 32 0", "refused 12 raw"),
+    ("write-template ! 8 full X Y", "refused 11 AAAAAAAAAAAAAAAA"),
+    (
+        "body B1098107C080000084B480 AC F2 A9 F2",
+        "body 2 compact X Y DT.scaling=46208.constant",
+    ),
+    ("body B1078105C020000000 80 80 02", "refused 8 2"),
+    ("body B100 80 80", "template refused 16"),
+    (
+        "body-point 1 B1098107C080000084B480 AC F2 A9 F2",
+        "point 41 114 . . . . . . - . . . . . . .",
+    ),
+    (
+        "write-body 1 -1,0 ! 3 B1 06 81 04 C0 00 00 00",
+        "written 2 7F80AA",
+    ),
+    (
+        "write-body 1 0,0 - 1 B1 06 81 04 C0 00 00 00",
+        "refused 21 extended AA",
+    ),
+    (
+        "turn 9 2 53444900 20313000 C000 00 00 00 00 000001 7FFF 8000",
+        "turned 8 2 B1068104C0000000AA 7F80",
+    ),
+    (
+        "turn 1 1 53444900 20313000 C000 00 00 00 00 000001 8080 8000",
+        "refused 21 value 0 X AA AA",
+    ),
 ];
 
 /// C.1 has F before DT; read by the clause its bytes give DT the range and F the scale
@@ -208,7 +242,7 @@ const ANNEX_EXAMPLES: Typed = &[
     (
         "whole 53444900 20313000 C0C0 80F998 80F998 6000000300 84B480 00 00 000003 \
          82078BCB003F 82098BCB0135 820F8BE8013C",
-        "record 47 3 plain X.scaling=63896 Y.scaling=63896 DT.minimum=0.maximum=768 F.scaling=46208.constant",
+        "record 47 3 plain full X.scaling=63896 Y.scaling=63896 DT.minimum=0.maximum=768 F.scaling=46208.constant",
     ),
     (
         "point 0 53444900 20313000 C0C0 80F998 80F998 6000000300 84B480 00 00 000003 \
@@ -218,7 +252,7 @@ const ANNEX_EXAMPLES: Typed = &[
     (
         "whole 53444900 20313000 C0C0 80F998 80F998 84B480 6000000300 00 00 000003 \
          82078BCB003F 82098BCB0135 820F8BE8013C",
-        "record 47 3 plain X.scaling=63896 Y.scaling=63896 DT.scaling=46208.constant F.minimum=0.maximum=768",
+        "record 47 3 plain full X.scaling=63896 Y.scaling=63896 DT.scaling=46208.constant F.minimum=0.maximum=768",
     ),
     (
         "point 0 53444900 20313000 C0C0 80F998 80F998 84B480 6000000300 00 00 000003 \
@@ -249,7 +283,7 @@ const ANNEX_EXAMPLES: Typed = &[
     ("place 519 63896", "thousandths 13"),
     ("place 3019 63896", "thousandths 77"),
     ("place - 46208", "thousandths 10"),
-    ("template B1 09 81 07 C0 80 00 00 84 B4 80", "template ! X Y DT.scaling=46208.constant"),
+    ("template B1 09 81 07 C0 80 00 00 84 B4 80", "template ! compact X Y DT.scaling=46208.constant"),
     ("write-template ! 11 X Y DT.scaling=46208.constant", "written 11 B1098107C080000084B480"),
     // C.2.2 is a compact body, which is no template.
     ("template 5F 2E 82 03 B6 AC F2 A9 F2", "refused 16"),
@@ -399,7 +433,7 @@ fn whole_annex_record(comparison: &mut Comparison) {
     comparison.ask_typed(
         ANNEX,
         &format!("whole {header} {points}"),
-        &format!("record 2879 475 plain {said}"),
+        &format!("record 2879 475 plain full {said}"),
     );
     comparison.ask_typed(
         ANNEX,
@@ -450,7 +484,7 @@ pub const UNREADABLE: Typed = &[
     ("!judge", NO_QUESTION),
     ("writetemplate ! 5 !", NO_QUESTION),
     ("write_template ! 5 !", NO_QUESTION),
-    ("record 17 0 plain X Y", NO_QUESTION),
+    ("record 17 0 plain full X Y", NO_QUESTION),
     ("lookup 0 53", NO_QUESTION),
     ("look_up 0 53", NO_QUESTION),
     ("look up 0 53", NO_QUESTION),

@@ -5,7 +5,8 @@ use crate::description::{attribute_range, point_size, stored, value_range, value
 use crate::description::{Description, Format, Said};
 use crate::random::Random;
 use crate::template::{self, Template};
-use crate::writing::{self, Parts};
+use crate::values::Order;
+use crate::writing::{self, put_values, Parts};
 
 /// X and Y, which every set has.
 pub const X_AND_Y: u16 = 0xC000;
@@ -77,7 +78,7 @@ pub fn description(
     set: u16,
     constants: Constants,
 ) -> Description {
-    let mut description = Description::default();
+    let mut description = Description::empty(format);
     for channel in (0..16).filter(|channel| set & bit(*channel) != 0) {
         let flags = flags(random, constants);
         description[channel] = said(random, format, channel, flags);
@@ -88,7 +89,7 @@ pub fn description(
 pub fn values(random: &mut Random, description: &Description, count: i64) -> Vec<i64> {
     let channels = stored(description);
     let amount = count as usize * channels.len();
-    let of = |&channel: &usize| number(random, value_range(channel));
+    let of = |&channel: &usize| number(random, value_range(description.mark, channel));
     channels.iter().cycle().take(amount).map(of).collect()
 }
 
@@ -118,40 +119,59 @@ pub fn of_description(random: &mut Random, description: Description, count: i64)
     }
 }
 
-/// Parts of a record short enough to be damaged at every byte.
-pub fn small_parts(random: &mut Random) -> Parts {
-    let set = small_set(random);
-    let constants = random.pick(&[
+fn constants(random: &mut Random) -> Constants {
+    random.pick(&[
         Constants::None,
         Constants::Some,
         Constants::Some,
         Constants::All,
-    ]);
-    let mut description = Description::default();
+    ])
+}
+
+/// A few channels with few attributes.
+pub fn small_description(random: &mut Random, format: Format) -> Description {
+    let set = small_set(random);
+    let constants = constants(random);
+    let mut description = Description::empty(format);
     for channel in (0..16).filter(|channel| set & bit(*channel) != 0) {
         let few = flags(random, constants) & (random.byte() | 6);
-        description[channel] = said(random, Format::Full, channel, few);
+        description[channel] = said(random, format, channel, few);
     }
+    description
+}
+
+/// X and Y alone, all channels, or any.
+pub fn any_description(random: &mut Random, format: Format) -> Description {
+    let set = random.pick(&[X_AND_Y, 0xFFFF, 0, 0, 0, 0]);
+    let set = if set == 0 { self::set(random) } else { set };
+    let constants = constants(random);
+    description(random, format, set, constants)
+}
+
+/// Mostly of a few channels.
+pub fn mixed_description(random: &mut Random, format: Format) -> Description {
+    match random.one_in(3) {
+        true => any_description(random, format),
+        false => small_description(random, format),
+    }
+}
+
+/// Parts of a record short enough to be damaged at every byte.
+pub fn small_parts(random: &mut Random) -> Parts {
+    let description = small_description(random, Format::Full);
     let count = random.between(0, 3);
     of_description(random, description, count)
 }
 
 pub fn any_parts(random: &mut Random) -> Parts {
-    let set = random.pick(&[X_AND_Y, 0xFFFF, 0, 0, 0, 0]);
-    let set = if set == 0 { self::set(random) } else { set };
-    let constants = random.pick(&[
-        Constants::None,
-        Constants::Some,
-        Constants::Some,
-        Constants::All,
-    ]);
+    let description = any_description(random, Format::Full);
     let count = random.between(0, 4);
-    parts(random, set, constants, count)
+    of_description(random, description, count)
 }
 
 /// All channels with all attributes, none of them constant.
 pub fn greatest_parts(random: &mut Random, count: i64) -> Parts {
-    let mut description = Description::default();
+    let mut description = Description::empty(Format::Full);
     for (channel, said) in description.iter_mut().enumerate() {
         let flags = 0xF8 | random.byte() & 2;
         *said = self::said(random, Format::Full, channel, flags);
@@ -205,7 +225,7 @@ fn s_places(parts: &Parts, start: usize) -> Vec<usize> {
     let before: usize = channels
         .iter()
         .filter(|channel| **channel < S)
-        .map(|c| value_width(*c))
+        .map(|channel| value_width(parts.description.mark, *channel))
         .sum();
     let size = point_size(&parts.description);
     (0..parts.count as usize)
@@ -281,4 +301,32 @@ pub fn maximum(random: &mut Random) -> i64 {
 
 pub fn template_bytes(template: &Template) -> Vec<u8> {
     template::write(template, usize::MAX).unwrap_or_default()
+}
+
+/// The bytes of so many points with any values, each in the ranges of the description's mark.
+pub fn points(random: &mut Random, description: &Description, count: i64) -> Vec<u8> {
+    let values = values(random, description, count);
+    let mut bytes = Vec::new();
+    put_values(&mut bytes, Order::Points, &values, description);
+    bytes
+}
+
+/// Parts of a record whose numbers all fit one byte, so that it can be turned (request L4).
+pub fn fitting_parts(random: &mut Random) -> Parts {
+    let narrow = mixed_description(random, Format::Compact);
+    let count = match stored(&narrow).len() {
+        0 => 0,
+        _ => random.between(0, 4),
+    };
+    fitting_points(random, narrow, count)
+}
+
+/// The same of this description, whose numbers fit.
+pub fn fitting_points(random: &mut Random, narrow: Description, count: i64) -> Parts {
+    Parts {
+        values: values(random, &narrow, count),
+        description: narrow.marked(Format::Full),
+        count,
+        extended: None,
+    }
 }

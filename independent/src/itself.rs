@@ -2,11 +2,13 @@
 //! back, what it reads it writes again, its readings keep the order of request L11, it has none
 //! without a scaling value (request L3), it names the numbers out of range in stored order
 //! (request L2), it looks points up by themselves (request L7), it reads and writes points by
-//! column (request L9), and the typed answers are its own.
+//! column (request L9), it reads and writes compact bodies and turns full records into them (request
+//! L4), and the typed answers are its own.
 
 use crate::apart;
 use crate::asking;
 use crate::by_column;
+use crate::compact;
 use crate::compare::Comparison;
 use crate::description::stored;
 use crate::inputs;
@@ -53,6 +55,7 @@ pub fn check(seed: u64, cases: usize) -> bool {
         mending::check(&mut counts, &mut random);
         apart::check(&mut counts, &mut random);
         by_column::check(&mut counts, &mut random);
+        compact::check(&mut counts, &mut random);
     }
     for _ in 0..cases.div_ceil(5) {
         let mut parts = inputs::any_parts(&mut random);

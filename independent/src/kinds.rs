@@ -35,12 +35,12 @@ pub fn every_combination() -> Vec<Vec<(usize, Kind)>> {
 }
 
 /// With few attributes.
-pub fn description(random: &mut Random, kinds: &[(usize, Kind)]) -> Description {
-    let mut description = Description::default();
+pub fn description(random: &mut Random, format: Format, kinds: &[(usize, Kind)]) -> Description {
+    let mut description = Description::empty(format);
     for (channel, kind) in kinds.iter().filter(|(_, kind)| *kind != Kind::Absent) {
         let few = random.byte() & random.byte() & !4;
         let constant = if *kind == Kind::Constant { 4 } else { 0 };
-        description[*channel] = inputs::said(random, Format::Full, *channel, few | constant);
+        description[*channel] = inputs::said(random, format, *channel, few | constant);
     }
     description
 }

@@ -72,7 +72,7 @@ fn record(counts: &mut Counts, random: &mut Random) {
     for _ in 0..random.below(4).min(parts.values.len()) {
         let index = random.below(parts.values.len());
         let channel = channels[index % channels.len()];
-        parts.values[index] = outside(random, value_range(channel));
+        parts.values[index] = outside(random, value_range(Format::Full, channel));
         out.insert(Which::Value { index, channel });
     }
     let count = parts.count;

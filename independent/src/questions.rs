@@ -1,7 +1,8 @@
-//! Makes the lines of questions.
+//! Makes the lines of questions. The marks of descriptions are left out, unless they are put in.
 
 use crate::answers::{digits, hex, values};
-use crate::description::{words, Description};
+use crate::body::Points;
+use crate::description::{channel_words, Description, Format};
 use crate::template::Template;
 use crate::writing::Parts;
 
@@ -27,12 +28,13 @@ pub fn columns_in(amount: usize, bytes: &[u8]) -> String {
 }
 
 pub fn write(parts: &Parts, room: usize) -> String {
-    write_with(parts, &extended(parts), room)
+    write_with(parts, &wanted(parts.extended.as_deref()), room)
 }
 
 /// The values of the parts stand column after column.
 pub fn write_columns(parts: &Parts, room: usize) -> String {
-    from_values("write-columns", parts, &extended(parts), room)
+    let extended = wanted(parts.extended.as_deref());
+    from_values("write-columns", parts, &extended, room)
 }
 
 /// With a given EXTENDED word.
@@ -40,14 +42,14 @@ pub fn write_with(parts: &Parts, extended: &str, room: usize) -> String {
     from_values("write", parts, extended, room)
 }
 
-fn extended(parts: &Parts) -> String {
-    let wanted = parts.extended.as_ref();
-    wanted.map_or("!".to_string(), |bytes| hex(bytes))
+/// EXTENDED of data that are wanted, or of none.
+fn wanted(extended: Option<&[u8]>) -> String {
+    extended.map_or("!".to_string(), hex)
 }
 
 fn from_values(question: &str, parts: &Parts, extended: &str, room: usize) -> String {
     let (count, values) = (parts.count, values(&parts.values));
-    let said = words(&parts.description);
+    let said = channel_words(&parts.description);
     format!("{question} {count} {values} {extended} {room}{said}")
 }
 
@@ -58,11 +60,53 @@ pub fn write_template(template: &Template, room: usize) -> String {
     let said = template
         .description
         .as_ref()
-        .map_or(" !".to_string(), words);
+        .map_or(" !".to_string(), channel_words);
     format!("write-template {maximum} {room}{said}")
 }
 
 /// A description that is lent and not wanted.
 pub fn write_template_unwanted(maximum: &str, room: usize, lent: &Description) -> String {
-    format!("write-template {maximum} {room} !{}", words(lent))
+    format!("write-template {maximum} {room} !{}", channel_words(lent))
+}
+
+/// How many words of a writer's question stand before DESCRIPTION.
+pub fn words_before_description(line: &str) -> usize {
+    let words: Vec<&str> = line.split(' ').collect();
+    match words[..] {
+        // None is wanted.
+        ["write-template", _, _, "!", ..] => 4,
+        ["write-template", ..] => 3,
+        _ => 5,
+    }
+}
+
+/// A writer's question with a mark put in.
+pub fn with_mark(line: &str, mark: Format) -> String {
+    let mut words: Vec<&str> = line.split(' ').collect();
+    words.insert(words_before_description(line), mark.word());
+    words.join(" ")
+}
+
+pub fn body(template: &[u8], body: &[u8]) -> String {
+    format!("body {} {}", hex(template), digits(body))
+}
+
+pub fn body_point(index: i64, template: &[u8], body: &[u8]) -> String {
+    format!("body-point {index} {} {}", hex(template), digits(body))
+}
+
+pub fn write_body(template: &[u8], points: &Points, room: usize) -> String {
+    write_body_with(template, points, &wanted(points.extended.as_deref()), room)
+}
+
+/// With a given EXTENDED word.
+pub fn write_body_with(template: &[u8], points: &Points, extended: &str, room: usize) -> String {
+    let (count, values, template) = (points.count, values(&points.values), digits(template));
+    format!("write-body {count} {values} {extended} {room} {template}")
+}
+
+/// Rooms for the template and for the body.
+pub fn turn(rooms: [usize; 2], bytes: &[u8]) -> String {
+    let [template, body] = rooms;
+    format!("turn {template} {body} {}", digits(bytes))
 }

@@ -3,6 +3,7 @@
 use crate::cursor::Cursor;
 use crate::description::{self, point_size, stored, value_range, value_width, Description, Format};
 use crate::refusal::Refusal;
+use crate::values::amount;
 
 pub const IDENTIFIER: [u8; 4] = *b"SDI\0";
 pub const VERSION: [u8; 4] = *b" 10\0";
@@ -100,7 +101,7 @@ fn skip_points(cursor: &mut Cursor, description: &Description, count: i64) -> Re
     }
     for _ in 0..count {
         for channel in stored(description) {
-            read_value(cursor, channel)?;
+            read_value(cursor, description.mark, channel)?;
         }
     }
     Ok(())
@@ -117,11 +118,11 @@ fn skip_extended(cursor: &mut Cursor) -> Result<usize, Refusal> {
 }
 
 /// The number of a channel that comes next: 1 or 8, as its bytes come.
-pub fn read_value(cursor: &mut Cursor, channel: usize) -> Result<i64, Refusal> {
-    let (low, high) = value_range(channel);
+pub fn read_value(cursor: &mut Cursor, format: Format, channel: usize) -> Result<i64, Refusal> {
+    let (low, high) = value_range(format, channel);
     let place = cursor.place();
-    let value = cursor.number(value_width(channel))? + low;
-    // Two bytes hold every number of the range; only S can be out of it.
+    let value = cursor.number(value_width(format, channel))? + low;
+    // The bytes hold every number of the range and no other; only S can be out of it.
     if value > high {
         return Err(Refusal::at(8, place));
     }
@@ -168,7 +169,18 @@ pub fn read_point(bytes: &[u8], record: &Record, index: i64) -> Result<[Place; 1
     read_places(&mut Cursor::new(bytes, start, 1), &record.description)
 }
 
-/// The point that comes next: 1 or 8, as its bytes come.
+/// The numbers of a record that was judged good, point after point.
+pub fn read_values(bytes: &[u8], record: &Record) -> Result<Vec<i64>, Refusal> {
+    let description = &record.description;
+    let mut cursor = Cursor::new(bytes, record.points, 1);
+    let channels = stored(description).into_iter().cycle();
+    channels
+        .take(amount(description, record.count) as usize)
+        .map(|channel| read_value(&mut cursor, description.mark, channel))
+        .collect()
+}
+
+/// The point that comes next, in a record or in a body: 1 or 8, as its bytes come.
 pub fn read_places(cursor: &mut Cursor, description: &Description) -> Result<[Place; 16], Refusal> {
     let mut places = [Place::Absent; 16];
     for (channel, place) in places.iter_mut().enumerate() {
@@ -176,7 +188,7 @@ pub fn read_places(cursor: &mut Cursor, description: &Description) -> Result<[Pl
         *place = match (said.included, said.constant) {
             (false, _) => Place::Absent,
             (true, true) => Place::Constant,
-            (true, false) => Place::Number(read_value(cursor, channel)?),
+            (true, false) => Place::Number(read_value(cursor, description.mark, channel)?),
         };
     }
     Ok(places)

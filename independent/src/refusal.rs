@@ -1,4 +1,4 @@
-//! The numbered refusals of document 01 and of request L3, and what they carry.
+//! The numbered refusals of document 01 and of requests L3 and L4, and what they carry.
 
 use crate::which::Which;
 
@@ -8,7 +8,7 @@ pub enum Carried {
     Nothing,
     /// Where the paper names a place.
     Place(usize),
-    /// 12 of the writers and of readings (request L2).
+    /// 12 of the writers and of readings (request L2), 21 of bodies and of turning (request L4).
     Which(Which),
 }
 
@@ -34,6 +34,22 @@ impl Refusal {
         Refusal {
             number: 12,
             carried: Carried::Which(which),
+        }
+    }
+
+    /// 21, does not fit the compact format, and what it was.
+    pub fn unfit(which: Which) -> Refusal {
+        Refusal {
+            number: 21,
+            carried: Carried::Which(which),
+        }
+    }
+
+    /// 21 for 12, with the same name; any other refusal stays.
+    pub fn for_compact(self) -> Refusal {
+        match (self.number, self.carried) {
+            (12, Carried::Which(which)) => Refusal::unfit(which),
+            _ => self,
         }
     }
 

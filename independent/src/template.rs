@@ -119,11 +119,12 @@ pub fn write(template: &Template, room: usize) -> Result<Vec<u8>, Refusal> {
     fits(put(template), room)
 }
 
-fn put(template: &Template) -> Vec<u8> {
+/// The bytes of a template that `write` doesn't refuse.
+pub fn put(template: &Template) -> Vec<u8> {
     let mut content = Vec::new();
     if let Some(description) = &template.description {
         let mut inside = Vec::new();
-        description::put(&mut inside, description, Format::Compact);
+        description::put(&mut inside, description);
         content.extend(tagged(DESCRIPTION, inside));
     }
     if let Some(maximum) = template.maximum {

@@ -1,4 +1,4 @@
-//! Which number was out of its range (request L2): what refusal 12 carries.
+//! Which number was out of its range (request L2): what refusals 12 and 21 carry.
 
 use std::ops::RangeInclusive;
 
@@ -7,7 +7,8 @@ use crate::description::ATTRIBUTES;
 use crate::refusal::Refusal;
 
 /// A number that can be out of its range, by its places in this program's tables. The cases stand
-/// in stored order: attributes, the count, values; attributes, a template's maximum; raw, E, F.
+/// in stored order: attributes, the count, values, extended data; attributes, a template's maximum;
+/// raw, E, F.
 #[derive(Clone, Copy, Debug, PartialEq, Eq, PartialOrd, Ord)]
 pub enum Which {
     Attribute {
@@ -20,6 +21,8 @@ pub enum Which {
         index: usize,
         channel: usize,
     },
+    /// Extended data, for which a body has no place (request L4).
+    Extended,
     /// A template's maximum number of points, which is no channel's maximum.
     Maximum,
     Raw,
@@ -36,6 +39,7 @@ impl Which {
             }
             Which::Count => "count".to_string(),
             Which::Value { index, channel } => format!("value {index} {}", CHANNELS[channel].name),
+            Which::Extended => "extended".to_string(),
             Which::Maximum => "maximum".to_string(),
             Which::Raw => "raw".to_string(),
             Which::E => "E".to_string(),

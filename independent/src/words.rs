@@ -1,7 +1,7 @@
 //! The words of a question, as the paper on `ask` has them.
 
 use crate::channels::CHANNELS;
-use crate::description::{Description, Said, ATTRIBUTES};
+use crate::description::{Description, Format, Said, ATTRIBUTES};
 use crate::record::Place;
 
 /// Why a line cannot be read.
@@ -54,9 +54,10 @@ impl<'a> Words<'a> {
         Ok(bytes)
     }
 
-    /// CHANNEL..: all the words that are left. The last word of a channel counts.
-    pub fn channels(&mut self) -> Read<Description> {
-        let mut description = Description::default();
+    /// DESCRIPTION: a mark, or none for the format that the question writes, and all the words that
+    /// are left as CHANNEL.. The last word of a channel counts.
+    pub fn description(&mut self, own: Format) -> Read<Description> {
+        let mut description = Description::empty(self.mark().unwrap_or(own));
         while let Some(word) = self.words.pop() {
             let (index, said) = channel(word).ok_or(NOT_CHANNEL)?;
             description[index] = said;
@@ -64,9 +65,22 @@ impl<'a> Words<'a> {
         Ok(description)
     }
 
+    /// Takes a mark if it is the next word.
+    fn mark(&mut self) -> Option<Format> {
+        let marks = [Format::Full, Format::Compact];
+        marks
+            .into_iter()
+            .find(|mark| self.take(mark.word().as_bytes()))
+    }
+
     /// Takes the word `!` if it is the next.
     pub fn none_wanted(&mut self) -> bool {
-        let found = self.words.last() == Some(&b"!".as_slice());
+        self.take(b"!")
+    }
+
+    /// Takes this word if it is the next.
+    fn take(&mut self, word: &[u8]) -> bool {
+        let found = self.words.last() == Some(&word);
         if found {
             self.words.pop();
         }

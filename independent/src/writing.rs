@@ -30,7 +30,7 @@ pub fn write_from(order: Order, parts: &Parts, room: usize) -> Result<Vec<u8>, R
     fits(record, room)
 }
 
-/// 15 is the last stage of both writers.
+/// 15 is the last stage of all writers.
 pub fn fits(result: Vec<u8>, room: usize) -> Result<Vec<u8>, Refusal> {
     if result.len() > room {
         return Err(Refusal::bare(15));
@@ -42,7 +42,7 @@ fn judge(order: Order, parts: &Parts) -> Result<(), Refusal> {
     description::judge(&parts.description, Format::Full)?;
     check(Which::Count, parts.count, 0..=GREATEST_COUNT)?;
     demand_amount(parts.values.len(), &parts.description, parts.count)?;
-    judge_values(order, &parts.values, &stored(&parts.description))?;
+    judge_values(order, &parts.values, &parts.description)?;
     if parts
         .extended
         .as_ref()
@@ -55,9 +55,13 @@ fn judge(order: Order, parts: &Parts) -> Result<(), Refusal> {
 
 /// The values are judged point after point, however they stand. The index is that among the values
 /// as they were lent; it does not begin again with each point or column.
-fn judge_values(order: Order, values: &[i64], channels: &[usize]) -> Result<(), Refusal> {
-    for (index, channel) in order.in_point_order(values.len(), channels) {
-        let (low, high) = value_range(channel);
+pub fn judge_values(
+    order: Order,
+    values: &[i64],
+    description: &Description,
+) -> Result<(), Refusal> {
+    for (index, channel) in order.in_point_order(values.len(), &stored(description)) {
+        let (low, high) = value_range(description.mark, channel);
         check(Which::Value { index, channel }, values[index], low..=high)?;
     }
     Ok(())
@@ -65,18 +69,24 @@ fn judge_values(order: Order, values: &[i64], channels: &[usize]) -> Result<(), 
 
 fn put(order: Order, parts: &Parts) -> Vec<u8> {
     let mut out = [IDENTIFIER, VERSION].concat();
-    description::put(&mut out, &parts.description, Format::Full);
+    description::put(&mut out, &parts.description);
     out.push(0);
     out.push(if parts.extended.is_some() { 0x80 } else { 0 });
     put_number(&mut out, parts.count, 3);
-    let channels = stored(&parts.description);
-    for (index, channel) in order.in_point_order(parts.values.len(), &channels) {
-        let stored = parts.values[index] - value_range(channel).0;
-        put_number(&mut out, stored, value_width(channel));
-    }
+    put_values(&mut out, order, &parts.values, &parts.description);
     if let Some(bytes) = &parts.extended {
         put_number(&mut out, bytes.len() as i64, 2);
         out.extend(bytes);
     }
     out
+}
+
+/// The points, in the format of the description's mark.
+pub fn put_values(out: &mut Vec<u8>, order: Order, values: &[i64], description: &Description) {
+    let format = description.mark;
+    for (index, channel) in order.in_point_order(values.len(), &stored(description)) {
+        // What is stored is the number less the low end of its range.
+        let stored = values[index] - value_range(format, channel).0;
+        put_number(out, stored, value_width(format, channel));
+    }
 }

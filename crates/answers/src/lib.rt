@@ -12,7 +12,7 @@ pub const NO_SUCH_QUESTION: usize = 7;
 
 pub const TOO_LONG: usize = 8;
 
-// The number that refusal 12 names, if any.
+// What refusal 12 or 21 names, if anything.
 pub enum Named {
     Nothing,
     Number(Quantity),
@@ -48,7 +48,11 @@ const PLAIN: usize = 8;
 
 pub const NONE: usize = 9;
 
-const NO_WORD: usize = 10;
+pub const BODY: usize = 10;
+
+const TURNED: usize = 11;
+
+const NO_WORD: usize = 12;
 
 // One of those words, or nothing.
 pub fn put_word(text: &mut [u8; 65536], used: u16, word: usize) -> u16 {
@@ -56,7 +60,7 @@ pub fn put_word(text: &mut [u8; 65536], used: u16, word: usize) -> u16 {
         text,
         used,
         words::name(
-            b"record refused template written point end absent extended plain !",
+            b"record refused template written point end absent extended plain ! body turned",
             b' ',
             word,
         ),
@@ -130,10 +134,11 @@ fn refused(number: u64, named: Named) -> Answer {
 
 // What a refusal names beside a place.
 fn named_by(refusal: Refusal) -> Named {
-    if let Refusal::OutOfRange { quantity } = refusal {
-        return Named::Number(quantity);
+    match refusal {
+        Refusal::OutOfRange { quantity } => Named::Number(quantity),
+        Refusal::NotCompact { quantity } => Named::Number(quantity),
+        _ => Named::Nothing,
     }
-    Named::Nothing
 }
 
 // A refusal by its number, with the place or the number out of range that it names.
@@ -198,6 +203,24 @@ pub fn of_maximum(limited: bool, maximum: u32) -> Answer {
         last: if limited { NO_WORD } else { NONE },
         named: Named::Nothing,
     }
+}
+
+// The lengths of a template and of a body that a record was turned into.
+pub fn of_turned(template: usize, body: usize) -> Answer {
+    Answer {
+        word: TURNED,
+        count: 2,
+        first: template as u64,
+        second: body as u64,
+        last: NO_WORD,
+        named: Named::Nothing,
+    }
+}
+
+// All the bytes that were lent, behind a space.
+pub fn put_lent(text: &mut [u8; 65536], start: u16, lent: &[u8]) -> u16 {
+    let used = texts::put(text, start, b' ');
+    texts::put_hex(text, used, lent)
 }
 
 fn put_one(text: &mut [u8; 65536], start: u16, place: Place) -> u16 {

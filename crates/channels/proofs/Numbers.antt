@@ -33,13 +33,12 @@ pub record Offset (z : ℤ) : Type 0 where
   pub below : number ≤ 32768
 
 pub offset-small : (format : Format) (signed : Bool) → Offset (offset (widthOf format) signed)
-unfolding offset widthOf
+unfolding offset
 offset-small Full true = record { number = 32768; is = refl; below = omega arith }
 offset-small Compact true = record { number = 128; is = refl; below = omega arith }
 offset-small format false = record { number = 0; is = refl; below = omega arith }
 
 pub limit : (format : Format) → 256 ^ widthOf format ≤ 65536
-unfolding widthOf
 limit Full = omega arith
 limit Compact = omega arith
 

@@ -1,11 +1,12 @@
 -- The sixteen channels, by their place in the order of 7.3.4.1.
-use mathlib.Core.Path.{_≡_, _∙_}
+use mathlib.Core.Path.{_≡_, refl, _∙_}
 use mathlib.Core.Bool.{Bool, true, false}
 use mathlib.Core.List.{List, [], _∷_}
 use Prim.Native.Nat.{ℕ, zero, suc, _+_, _<_}
 use native.Mathlib.Nat.{zero-add}
 use native.Mathlib.Omega.{arith}
 use lib.ListN.{getD}
+use Rattle.formats.specs.Bytes.{impossible}
 use Rattle.channels.specs.declared.Format.{Format}
 use Rattle.channels.specs.declared.Format.the-variants.{Full, Compact}
 
@@ -64,7 +65,28 @@ signs =
 unfoldable pub signedOf : ℕ → Bool
 signedOf channel = getD signs channel false
 
+-- whether two formats are one
+unfoldable pub isSame : Format → Format → Bool
+isSame Full Full = true
+isSame Full Compact = false
+isSame Compact Full = false
+isSame Compact Compact = true
+
+pub same-is : (format other : Format) → isSame format other ≡ true → format ≡ other
+unfolding isSame
+same-is Full Full e = refl
+same-is Full Compact e = impossible (cc)
+same-is Compact Full e = impossible (cc)
+same-is Compact Compact e = refl
+
+pub is-same : (format other : Format) → format ≡ other → isSame format other ≡ true
+unfolding isSame
+is-same Full Full e = refl
+is-same Full Compact e = impossible (cc)
+is-same Compact Full e = impossible (cc)
+is-same Compact Compact e = refl
+
 -- how many bytes a number has: two in the full format (7.3.4.4, 7.4.2), one in the compact one (8.2.2.4)
-unfoldable pub widthOf : Format → ℕ
+abbrev pub widthOf : Format → ℕ
 widthOf Full = 2
 widthOf Compact = 1

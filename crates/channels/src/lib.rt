@@ -4,9 +4,9 @@ ghost use Prim.Native.Nat.{_^_, _≤_};
 ghost use lib.IntN.{pos};
 ghost use Rattle.formats.specs.Binary.{bit, binary};
 ghost use Rattle.channels.specs.Bits.{moved};
-ghost use Rattle.channels.specs.Channel.{signs, signedOf, widthOf};
-ghost use Rattle.channels.specs.Descriptors.{isStored};
-ghost use Rattle.channels.specs.Stored as stored;
+ghost use Rattle.channels.specs.Channel.{isSame, signs, signedOf, widthOf};
+ghost use Rattle.channels.specs.Descriptors.{isStored, included, stored};
+ghost use Rattle.channels.specs.Stored as number;
 ghost use Rattle.channels.specs.Stored.{valueOf, storedIf};
 
 // The channels, by their place in the order of 7.3.4.1.
@@ -60,9 +60,32 @@ pub struct Descriptor {
     pub detrended: bool,
 }
 
-// A descriptor for each channel, in their order.
+// The full format stores a number in two bytes (clause 7), the compact one in one (clause 8).
+pub enum Format {
+    Full,
+    Compact,
+}
+
+// A descriptor for each channel, in their order, and the mark: the format that the description is of (request L4).
 pub struct Description {
     pub channels: [Descriptor; 16],
+    pub mark: Format,
+}
+
+// Whether a format is another.
+pub fn is_same(format: Format, other: Format) -> bool
+    ensures { λ r. ⌜ r ≡ isSame format other ⌝ }
+{
+    match format {
+        Format::Full => match other {
+            Format::Full => true,
+            Format::Compact => false,
+        },
+        Format::Compact => match other {
+            Format::Full => false,
+            Format::Compact => true,
+        },
+    }
 }
 
 // Whether a sample point holds a number for the channel.
@@ -72,17 +95,39 @@ pub fn is_stored(d: Descriptor) -> bool
     d.included && !d.constant
 }
 
+// Which channels are included.
+pub fn included_channels(d: Description) -> [bool; 16]
+    ensures { λ r. ⌜ r ≡ included d ⌝ }
+{
+    let mut included = [false; 16];
+    let mut i: usize = 0;
+    while i < 16 {
+        let c = d.channels[i];
+        included[i] = c.included;
+        i += 1;
+    }
+    included
+}
+
+// Which channels a sample point holds a number of.
+pub fn stored_channels(d: Description) -> [bool; 16]
+    ensures { λ r. ⌜ r ≡ stored d ⌝ }
+{
+    let mut stored = [false; 16];
+    let mut i: usize = 0;
+    while i < 16 {
+        let c = d.channels[i];
+        stored[i] = is_stored(c);
+        i += 1;
+    }
+    stored
+}
+
 // What a sample point says of a channel.
 pub enum Place {
     Absent,
     Constant,
     Number(i32),
-}
-
-// The full format stores a number in two bytes (clause 7), the compact one in one (clause 8).
-pub enum Format {
-    Full,
-    Compact,
 }
 
 // How many bytes a number has in a format.
@@ -132,7 +177,7 @@ pub fn is_signed(channel: usize) -> bool
 
 // What is added to a number before it is stored.
 fn offset_of(format: Format, signed: bool) -> i32
-    ensures { λ r. ⌜ r ≡ stored.offset (widthOf format) signed ⌝ }
+    ensures { λ r. ⌜ r ≡ number.offset (widthOf format) signed ⌝ }
 {
     if signed {
         match format {

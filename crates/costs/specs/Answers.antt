@@ -7,6 +7,7 @@ use lib.IntN.{ℤ}
 use lib.ListN.{length}
 use Rattle.formats.specs.Reader.{run, readAt}
 use Rattle.formats.specs.OneAnswer.{OneAnswer, named}
+use Rattle.channels.specs.declared.Format.the-variants.{Full, Compact}
 use Rattle.descriptions.specs.Description.{description}
 use Rattle.descriptions.specs.Read.{described}
 use Rattle.records.specs.Record.{fullRecord}
@@ -18,13 +19,13 @@ use Rattle.walks.specs.Walk.{stepOf}
 use Rattle.templates.specs.Reading.{templateOf}
 use Rattle.template_writing.specs.Writing as template
 use Rattle.readings.specs.Thousandths.{reading, placeReading}
-use Rattle.costs.specs.Handed.{handedJudgement, handedDescription, widthIf, readHeader, handedPoint, placeFrom, handedPart, handedRecord, handedTemplate, handedWriting, handedStep, handedReadTemplate, handedReading, scalingFrom}
+use Rattle.costs.specs.Handed.{handedJudgement, handedDescription, formatIf, readHeader, handedPoint, placeFrom, handedPart, handedRecord, handedTemplate, handedWriting, handedStep, handedReadTemplate, handedReading, scalingFrom}
 
 module _ (s : List ℕ) where
   pub one-judgement : (channel : ℕ) → OneAnswer (λ r. r ≡ handedJudgement channel (judged (run fullRecord s)))
   one-judgement channel = named
 
-  pub one-description : (compact : Bool) (channel : ℕ) → OneAnswer (λ r. r ≡ handedDescription channel (described (readAt (description (widthIf compact)) s 0)))
+  pub one-description : (compact : Bool) (channel : ℕ) → OneAnswer (λ r. r ≡ handedDescription channel (described (formatIf compact) (readAt (description (formatIf compact)) s 0)))
   one-description compact channel = named
 
   pub one-point : (index channel : ℕ) → OneAnswer (λ r. r ≡ handedPoint channel (placesIn index (run fullRecord s)))
@@ -43,11 +44,11 @@ module _ (s : List ℕ) where
   one-template channel = named
 
   pub one-written : (count : ℕ) (values : List ℤ) (wanted : Bool) (extended out : List ℕ)
-      → OneAnswer (λ w. w ≡ handedWriting handedRecord (writeOf (readHeader 2 s) count values wanted extended out))
+      → OneAnswer (λ w. w ≡ handedWriting handedRecord (writeOf (readHeader Full s) count values wanted extended out))
   one-written count values wanted extended out = named
 
   pub one-template-written : (limited : Bool) (maximum : ℕ) (out : List ℕ)
-      → OneAnswer (λ w. w ≡ handedWriting handedTemplate (template.writeOf true (readHeader 1 s) limited maximum out))
+      → OneAnswer (λ w. w ≡ handedWriting handedTemplate (template.writeOf true (readHeader Compact s) limited maximum out))
   one-template-written limited maximum out = named
 
 pub one-reading : (raw : ℤ) (e f : ℕ) → OneAnswer (λ r. r ≡ handedReading (reading raw e f))

@@ -21,6 +21,8 @@ use Rattle.channels.specs.declared.Description.{Description}
 use Rattle.channels.specs.declared.Place.{Place}
 use Rattle.channels.specs.declared.Place.the-variants.{Absent, Constant, Number}
 use Rattle.channels.specs.Descriptors.{absent}
+use Rattle.channels.specs.declared.Format.{Format}
+use Rattle.channels.specs.declared.Format.the-variants.{Full, Compact}
 use Rattle.descriptions.specs.Description.{description}
 use Rattle.descriptions.specs.Read.{described}
 use Rattle.descriptions.specs.declared.Described.{Described}
@@ -98,13 +100,13 @@ handedOutcome said (outcome.Failed failure) =
 unfoldable pub handedDescription : (channel : ℕ) → Described → Told
 handedDescription channel d = handedOutcome (handedChannel channel (d .description)) (d .outcome)
 
--- how many bytes a number has: one in the compact format, two in the full one
-unfoldable pub widthIf : (compact : Bool) → ℕ
-widthIf compact = cond compact 1 2
+-- the format that is asked for
+unfoldable pub formatIf : (compact : Bool) → Format
+formatIf compact = cond compact Compact Full
 
--- what stands at the start of some bytes, with numbers of some width: the description that a writer is handed
-unfoldable pub readHeader : (width : ℕ) → List ℕ → Description
-readHeader width bytes = described (readAt (description width) bytes 0) .description
+-- what stands at the start of some bytes, in a format: the description that a writer is handed
+unfoldable pub readHeader : Format → List ℕ → Description
+readHeader format bytes = described format (readAt (description format) bytes 0) .description
 
 -- ---- A place of a point, a part of some bytes
 

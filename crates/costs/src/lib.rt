@@ -6,6 +6,7 @@ ghost use mathlib.Core.Bool.{true};
 ghost use lib.ListN.{length};
 ghost use Rattle.formats.specs.Reader.{run, readAt};
 ghost use Rattle.formats.specs.Lent.{writing};
+ghost use Rattle.channels.specs.declared.Format.the-variants.{Full, Compact};
 ghost use Rattle.descriptions.specs.Description.{description};
 ghost use Rattle.descriptions.specs.Read.{described};
 ghost use Rattle.records.specs.Record.{fullRecord};
@@ -17,7 +18,7 @@ ghost use Rattle.walks.specs.Walk.{stepOf};
 ghost use Rattle.templates.specs.Reading.{templateOf};
 ghost use Rattle.template_writing.specs.Writing as template;
 ghost use Rattle.readings.specs.Thousandths.{told, toldPlace, reading, placeReading};
-ghost use Rattle.costs.specs.Handed.{handedDescriptor, handedPlace, handedJudgement, handedDescription, widthIf, readHeader, seatOf, handedPoint, placeFrom, pieceOf, handedPart, handedRecord, handedTemplate, handedWriting, handedStep, handedReadTemplate, handedReading, scalingFrom};
+ghost use Rattle.costs.specs.Handed.{handedDescriptor, handedPlace, handedJudgement, handedDescription, formatIf, readHeader, seatOf, handedPoint, placeFrom, pieceOf, handedPart, handedRecord, handedTemplate, handedWriting, handedStep, handedReadTemplate, handedReading, scalingFrom};
 use channels::Attribute;
 use channels::Descriptor;
 use channels::Format;
@@ -131,7 +132,7 @@ pub struct Told {
 
 #[no_mangle]
 pub extern "C" fn costs_describe(bytes: &[u8], compact: bool, channel: usize) -> Told
-    ensures { λ r. ⌜ r ≡ handedDescription channel (described (readAt (description (widthIf compact)) (now (bytes .entry)) 0)) ⌝ }
+    ensures { λ r. ⌜ r ≡ handedDescription channel (described (formatIf compact) (readAt (description (formatIf compact)) (now (bytes .entry)) 0)) ⌝ }
 {
     let format = if compact {
         Format::Compact
@@ -245,7 +246,7 @@ pub extern "C" fn costs_write(
     extended: &[u8],
     out: &mut [u8],
 ) -> Done
-    ensures { λ r. ⌜ writing r (now (out .exit)) ≡ handedWriting handedRecord (writeOf (readHeader 2 (now (header .entry))) count (now (values .entry)) wanted (now (extended .entry)) (now (out .entry))) ⌝ }
+    ensures { λ r. ⌜ writing r (now (out .exit)) ≡ handedWriting handedRecord (writeOf (readHeader Full (now (header .entry))) count (now (values .entry)) wanted (now (extended .entry)) (now (out .entry))) ⌝ }
 {
     let described = descriptions::read(header, 0, Format::Full);
     let description = described.description;
@@ -358,7 +359,7 @@ pub extern "C" fn costs_write_template(
     maximum: u32,
     out: &mut [u8],
 ) -> Done
-    ensures { λ r. ⌜ writing r (now (out .exit)) ≡ handedWriting handedTemplate (template.writeOf true (readHeader 1 (now (header .entry))) limited maximum (now (out .entry))) ⌝ }
+    ensures { λ r. ⌜ writing r (now (out .exit)) ≡ handedWriting handedTemplate (template.writeOf true (readHeader Compact (now (header .entry))) limited maximum (now (out .entry))) ⌝ }
 {
     let described = descriptions::read(header, 0, Format::Compact);
     let description = described.description;

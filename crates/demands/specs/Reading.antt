@@ -16,7 +16,8 @@ use Rattle.refusals.specs.declared.Refusal.{Refusal}
 use Rattle.refusals.specs.declared.Refusal.the-variants.{NoPoint}
 use Rattle.channels.specs.declared.Place.{Place}
 use Rattle.point_places.specs.Places.{placesOf, nowhere}
-use Rattle.records.specs.Record.{fullRecord, encode, included, stored, IsRecord, extendedBytes}
+use Rattle.channels.specs.Descriptors.{included, stored}
+use Rattle.records.specs.Record.{fullRecord, encode, IsRecord, extendedBytes}
 use Rattle.record_points.specs.Pointing.{pointedAt, placesIn}
 use Rattle.record_parts.specs.Parts.{extendedPlace, extendedSize, restPlace, restSize}
 use Rattle.record_reading.specs.declared.Judged.{Judged}

@@ -20,7 +20,8 @@ use Rattle.point_places.specs.Places.{unstored, placesOf, nowhere}
 use Rattle.orders.specs.Orders.{size, step, stride, pointsOf}
 use Rattle.orders.specs.OrderLaws.{points-many, number-is, size-at}
 use Rattle.orders.specs.declared.Order.the-variants.{Point}
-use Rattle.records.specs.Record.{Record, stored, header, openingByte, encodeExtended, encode, extendedBytes}
+use Rattle.channels.specs.Descriptors.{stored}
+use Rattle.records.specs.Record.{Record, header, openingByte, encodeExtended, encode, extendedBytes}
 use Rattle.record_reading.specs.Verdict.{verdictFrom, judged}
 use Rattle.record_points.specs.Pointing.{pointedAt, placesIn}
 use Rattle.record_parts.specs.Parts.{extendedPlace, extendedSize, restPlace, restSize}

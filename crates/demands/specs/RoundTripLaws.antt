@@ -15,7 +15,8 @@ use Rattle.channels.specs.declared.Place.{Place}
 use Rattle.orders.specs.Orders.{size}
 use Rattle.orders.specs.OrderLaws.{size-at}
 use Rattle.values.specs.ValueLaws.{valid-sizes}
-use Rattle.records.specs.Record.{Record, fullRecord, included, stored, IsRecord, present, extendedBytes}
+use Rattle.channels.specs.Descriptors.{included, stored}
+use Rattle.records.specs.Record.{Record, fullRecord, IsRecord, present, extendedBytes}
 use Rattle.records.specs.Demands.{write-after-read}
 use Rattle.record_reading.specs.declared.Verdict.the-variants as verdict
 use Rattle.record_reading.specs.declared.Judged.{Judged}

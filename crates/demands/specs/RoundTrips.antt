@@ -19,7 +19,8 @@ use Rattle.orders.specs.Orders.{size, pointsOf, valuesOf}
 use Rattle.orders.specs.OrderLaws.{points-many}
 use Rattle.orders.specs.declared.Order.the-variants.{Point}
 use Rattle.values.specs.ValueLaws.{fits-valid, valid-sizes}
-use Rattle.records.specs.Record.{Record, fullRecord, encode, included, stored, IsRecord}
+use Rattle.channels.specs.Descriptors.{included, stored}
+use Rattle.records.specs.Record.{Record, fullRecord, encode, IsRecord}
 use Rattle.record_reading.specs.Verdict.{judged, judgedWhole}
 use Rattle.record_reading.specs.declared.Verdict.the-variants as verdict
 use Rattle.record_reading.specs.declared.Judged.{Judged}

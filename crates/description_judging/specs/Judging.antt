@@ -1,5 +1,5 @@
 -- Whether a channel description can be written; and which of its numbers is the first out of its range.
-use mathlib.Core.Bool.{false}
+use mathlib.Core.Bool.{Bool, false, _&&_}
 use mathlib.Core.List.{List, [], _∷_, _++_}
 use Prim.Native.Nat.{ℕ, suc}
 use Rattle.refusals.specs.Stages.{require, stages}
@@ -9,10 +9,11 @@ use Rattle.refusals.specs.declared.Where.the-variants.{Nowhere}
 use Rattle.refusals.specs.declared.Quantity.the-variants.{Attribute}
 use Rattle.refusals.specs.declared.Refusal.the-variants.{XOrY, Untidy}
 use Rattle.refusals.specs.declared.Judgement.{Judgement}
-use Rattle.channels.specs.Channel.{signedOf}
+use Rattle.channels.specs.Channel.{isSame, signedOf, widthOf}
 use Rattle.channels.specs.declared.Descriptor.{Descriptor}
 use Rattle.channels.specs.declared.Description.{Description}
-use Rattle.descriptions.specs.Description.{includesXY, tidy, fitsAttribute}
+use Rattle.channels.specs.declared.Format.{Format}
+use Rattle.descriptions.specs.Description.{includesXY, neat, fitsAttribute}
 
 -- ---- Its numbers, in the order in which they are stored
 
@@ -36,6 +37,10 @@ numbers w d = numbersFrom w 0 (d .channels)
 
 -- ---- The stages
 
+-- it has the mark of the format, and is tidy as document 01 has it; a number that does not fit the mark is refused behind this, by its name
+unfoldable pub neatIn : Format → Description → Bool
+neatIn format d = isSame (d .mark) format && neat d
+
 -- stage by stage: the whole description is judged by one before the next
-unfoldable pub judgementOf : (w : ℕ) → Description → Judgement
-judgementOf w d = stages (require (includesXY d) (XOrY Nowhere) ∷ require (tidy d) Untidy ∷ firstMisfit (numbers w d) ∷ [])
+unfoldable pub judgementOf : Format → Description → Judgement
+judgementOf format d = stages (require (includesXY d) (XOrY Nowhere) ∷ require (neatIn format d) Untidy ∷ firstMisfit (numbers (widthOf format) d) ∷ [])

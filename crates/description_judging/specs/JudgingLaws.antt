@@ -11,11 +11,13 @@ use Rattle.refusals.specs.Stages.{require, orElse, stages, require-passed, or-e
 use Rattle.refusals.specs.Ranges.{firstMisfit}
 use Rattle.refusals.specs.RangeLaws.{passed-fit, fit-passed, joined}
 use Rattle.refusals.specs.declared.Judgement.the-variants as judgement
-use Rattle.channels.specs.Channel.{signedOf}
+use Rattle.channels.specs.Channel.{isSame, signedOf, widthOf, same-is, is-same}
 use Rattle.channels.specs.declared.Descriptor.{Descriptor}
 use Rattle.channels.specs.declared.Description.{Description}
-use Rattle.descriptions.specs.Description.{includesXY, tidy, fitsAttribute, fitsDescriptor, every, allFit, Valid}
-use Rattle.description_judging.specs.Judging.{numbersOf, numbersFrom, numbers, judgementOf}
+use Rattle.channels.specs.declared.Format.{Format}
+use Rattle.descriptions.specs.Description.{includesXY, fitsAttribute, fitsDescriptor, every, neat, allFit, Valid}
+use Rattle.descriptions.specs.EncodedLaws.{tidy-marked, valid-neat, valid-fits}
+use Rattle.description_judging.specs.Judging.{numbersOf, numbersFrom, numbers, neatIn, judgementOf}
 
 -- ---- The numbers
 
@@ -80,26 +82,32 @@ module _ (w : ℕ) where
 
 -- ---- The stages
 
--- the three tests of a description that is passed
-pub record Sound (w : ℕ) (d : Description) : Type 0 where
+-- the tests of a description that is passed
+pub record Sound (format : Format) (d : Description) : Type 0 where
   pub xy : T (includesXY d)
-  pub neat : T (tidy d)
-  pub ranges : T (allFit w d)
+  pub marked : d .mark ≡ format
+  pub neat : T (neat d)
+  pub ranges : T (allFit (widthOf format) d)
 
 holds : {t : Bool} → t ≡ true → T t
 holds e = rw e tt
 
-module _ (w : ℕ) (d : Description) where
-  pub passed-sound : judgementOf w d ≡ judgement.Passed → Sound w d
-  unfolding judgementOf
+module _ (format : Format) (d : Description) where
+  pub passed-sound : judgementOf format d ≡ judgement.Passed → Sound format d
+  unfolding judgementOf neatIn
   passed-sound e =
       let s = stages-passed _ e in
-      record { xy = holds (require-passed _ _ (s .0)); neat = holds (require-passed _ _ (s .1 .0)); ranges = holds (none-named w d (s .1 .1 .0)) }
+      let n = both (isSame (d .mark) format) (neat d) (require-passed _ _ (s .1 .0)) in
+      record { xy = holds (require-passed _ _ (s .0)); marked = same-is (d .mark) format (n .0); neat = holds (n .1); ranges = holds (none-named (widthOf format) d (s .1 .1 .0)) }
 
   -- passed and sixteen channels: that is to be valid
-  pub passed-valid : judgementOf w d ≡ judgement.Passed → length (d .channels) ≡ 16 → Valid w d
-  passed-valid e h = let s = passed-sound e in record { sixteen = h; xy = s .xy; neat = s .neat; ranges = s .ranges }
+  pub passed-valid : judgementOf format d ≡ judgement.Passed → length (d .channels) ≡ 16 → Valid format d
+  passed-valid e h = let s = passed-sound e in record { sixteen = h; xy = s .xy; marked = s .marked; tidy = tidy-marked format d (s .marked) (s .neat) (s .ranges) }
 
-  pub valid-passed : Valid w d → (judgementOf w d ≡ judgement.Passed) × (length (d .channels) ≡ 16)
-  unfolding judgementOf stages orElse require
-  valid-passed v = (rw (is-true (includesXY d) (v .xy), is-true (tidy d) (v .neat), all-pass w d (is-true (allFit w d) (v .ranges))), v .sixteen)
+  pub valid-passed : Valid format d → (judgementOf format d ≡ judgement.Passed) × (length (d .channels) ≡ 16)
+  unfolding judgementOf neatIn stages orElse require
+  valid-passed v = (
+    rw
+        (is-true (includesXY d) (v .xy), is-same (d .mark) format (v .marked), is-true (neat d) (valid-neat format d v), all-pass (widthOf format) d (is-true (allFit (widthOf format) d) (valid-fits format d v))),
+    v .sixteen,
+  )

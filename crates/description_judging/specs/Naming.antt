@@ -12,22 +12,25 @@ use Rattle.refusals.specs.declared.Quantity.{Quantity}
 use Rattle.refusals.specs.declared.Quantity.the-variants as quantity
 use Rattle.refusals.specs.declared.Refusal.the-variants.{OutOfRange}
 use Rattle.refusals.specs.declared.Judgement.the-variants.{Refused}
+use Rattle.channels.specs.Channel.{widthOf}
 use Rattle.channels.specs.Descriptors.{absent}
 use Rattle.channels.specs.declared.Attribute.{Attribute}
 use Rattle.channels.specs.declared.Descriptor.{Descriptor}
 use Rattle.channels.specs.declared.Description.{Description}
-use Rattle.descriptions.specs.Description.{includesXY, tidy}
-use Rattle.description_judging.specs.Judging.{numbers, judgementOf}
+use Rattle.channels.specs.declared.Format.{Format}
+use Rattle.descriptions.specs.Description.{includesXY}
+use Rattle.description_judging.specs.Judging.{numbers, neatIn, judgementOf}
 
--- judge, at the width of its format, names this number: its promise, where the answer is 12
-abbrev pub Names : (w : ℕ) → Description → Quantity → Type 0
-Names w d name = Refused (OutOfRange name) ≡ judgementOf w d
+-- judge names this number: its promise, where the answer is 12
+abbrev pub Names : Format → Description → Quantity → Type 0
+Names format d name = Refused (OutOfRange name) ≡ judgementOf format d
 
 -- ---- The claims
 
 -- behind 4 and 11, 12 names a number exactly where that is out of its range and every earlier one in stored order is in its own
 abbrev pub NamesFirst : Type 0
-NamesFirst = (w : ℕ) (d : Description) (name : Quantity) → Names w d name ↔ (T (includesXY d) × (T (tidy d) × FirstOutside (numbers w d) name))
+NamesFirst =
+    (format : Format) (d : Description) (name : Quantity) → Names format d name ↔ (T (includesXY d) × (T (neatIn format d) × FirstOutside (numbers (widthOf format) d) name))
 
 -- the attribute of a name
 abbrev pub attributeOf : AttributeName → Descriptor → Attribute
@@ -47,4 +50,4 @@ pub record GivenAttribute (d : Description) (name : Quantity) : Type 0 where
 
 -- a number without its flag is never named
 abbrev pub NamesGiven : Type 0
-NamesGiven = (w : ℕ) (d : Description) (name : Quantity) → Names w d name → GivenAttribute d name
+NamesGiven = (format : Format) (d : Description) (name : Quantity) → Names format d name → GivenAttribute d name

@@ -21,37 +21,40 @@ use Rattle.refusals.specs.declared.Quantity.the-variants as quantity
 use Rattle.refusals.specs.declared.Refusal.the-variants.{XOrY, Untidy, OutOfRange}
 use Rattle.refusals.specs.declared.Judgement.{Judgement}
 use Rattle.refusals.specs.declared.Judgement.the-variants.{Passed, Refused}
+use Rattle.channels.specs.Channel.{widthOf}
 use Rattle.channels.specs.Descriptors.{absent}
 use Rattle.channels.specs.declared.Attribute.{Attribute}
 use Rattle.channels.specs.declared.Descriptor.{Descriptor}
 use Rattle.channels.specs.declared.Description.{Description}
-use Rattle.descriptions.specs.Description.{includesXY, tidy, fitsAttribute}
-use Rattle.description_judging.specs.Judging.{numbersOf, numbersFrom, numbers, judgementOf}
+use Rattle.channels.specs.declared.Format.{Format}
+use Rattle.descriptions.specs.Description.{includesXY, fitsAttribute}
+use Rattle.description_judging.specs.Judging.{numbersOf, numbersFrom, numbers, neatIn, judgementOf}
 use Rattle.description_judging.specs.Naming.{NamesFirst, attributeOf, GivenAttribute, NamesGiven}
 
 -- ---- The first
 
-module _ (w : ℕ) (d : Description) where
-  -- a description that includes X and Y and is tidy is judged by its numbers
-  pub by-numbers : T (includesXY d) → T (tidy d) → judgementOf w d ≡ firstMisfit (numbers w d)
+module _ (format : Format) (d : Description) where
+  -- a description of the format that includes X and Y and is tidy is judged by its numbers
+  pub by-numbers : T (includesXY d) → T (neatIn format d) → judgementOf format d ≡ firstMisfit (numbers (widthOf format) d)
   unfolding judgementOf stages orElse require
-  by-numbers xy neat = rw (is-true (includesXY d) xy, is-true (tidy d) neat) (or-else-last (firstMisfit (numbers w d)))
+  by-numbers xy neat = rw (is-true (includesXY d) xy, is-true (neatIn format d) neat) (or-else-last (firstMisfit (numbers (widthOf format) d)))
 
   -- 4 and 11 name no number: of any other description 12 is not said, whatever is judged behind it
-  pub tidy-first : (next : Judgement) (name : Quantity) → orElse (judgementOf w d) next ≡ Refused (OutOfRange name) → T (includesXY d) × T (tidy d)
+  pub tidy-first : (next : Judgement) (name : Quantity) → orElse (judgementOf format d) next ≡ Refused (OutOfRange name) → T (includesXY d) × T (neatIn format d)
   unfolding judgementOf stages orElse require
-  tidy-first next name e = go (includesXY d) (tidy d) e
+  tidy-first next name e = go (includesXY d) (neatIn format d) e
     where
-      go : (xy neat : Bool) → orElse (stages (require xy (XOrY Nowhere) ∷ require neat Untidy ∷ firstMisfit (numbers w d) ∷ [])) next ≡ Refused (OutOfRange name) → T xy × T neat
+      go : (xy neat : Bool) → orElse (stages (require xy (XOrY Nowhere) ∷ require neat Untidy ∷ firstMisfit (numbers (widthOf format) d) ∷ [])) next ≡ Refused (OutOfRange name) → T xy × T neat
       go true true h = (tt, tt)
       go true false h = impossible (cc)
       go false neat h = impossible (cc)
 
 pub names-first : NamesFirst
-names-first w d name = (
-  λ e. let x = tidy-first w d Passed name (or-else-last (judgementOf w d) ∙ sym e) in (x .0, (x .1, named-first (numbers w d) name (sym (e ∙ by-numbers w d (x .0) (x .1))))),
-  λ h. sym (by-numbers w d (h .0) (h .1 .0) ∙ first-named (numbers w d) name (h .1 .1)),
-)
+names-first format d name =
+    let w = widthOf format in (
+      λ e. let x = tidy-first format d Passed name (or-else-last (judgementOf format d) ∙ sym e) in (x .0, (x .1, named-first (numbers w d) name (sym (e ∙ by-numbers format d (x .0) (x .1))))),
+      λ h. sym (by-numbers format d (h .0) (h .1 .0) ∙ first-named (numbers w d) name (h .1 .1)),
+    )
 
 -- ---- Its flag
 
@@ -110,6 +113,7 @@ module _ (d : Description) where
 
 pub names-given : NamesGiven
 unfolding numbers
-names-given w d name e =
-    let x = names-first w d name .0 e in
+names-given format d name e =
+    let w = widthOf format in
+    let x = names-first format d name .0 e in
     of-first (Flagged d) (numbers w d) name (of-channels d w 0 (d .channels) (λ k q. let z : 0 + k ≡ k = zero-add k in rw z (q, refl))) (x .1 .1) refl

@@ -14,7 +14,7 @@ ghost use Prim.Native.Nat.{ℕ, _-_, _^_};
 ghost use lib.Dec.{T};
 ghost use Rattle.channels.specs.Channel.{signedOf, widthOf};
 ghost use Rattle.channels.specs.Stored.{valueOf};
-ghost use Rattle.descriptions.specs.Description.{includesXY, tidyAttribute, flagless, tidyDescriptor, tidy, fitsAttribute, fitsDescriptor, allFit};
+ghost use Rattle.descriptions.specs.Description.{includesXY, tidyAttribute, flagless, tidyDescriptor, neat, fitsAttribute, fitsDescriptor, allFit};
 ghost use Rattle.refusals.specs.Ranges.{firstMisfit};
 ghost use Rattle.refusals.specs.declared.Quantity.the-variants as quantity;
 ghost use Rattle.refusals.specs.declared.Refusal.the-variants.{OutOfRange};
@@ -63,8 +63,8 @@ fn tidy_descriptor(d: Descriptor) -> bool
 }
 
 // Each of the sixteen is tidy.
-fn is_tidy(description: Description) -> bool
-    ensures { λ r. ⌜ r ≡ tidy description ⌝ }
+fn is_neat(description: Description) -> bool
+    ensures { λ r. ⌜ r ≡ neat description ⌝ }
 {
     let mut i: usize = 0;
     while i < 16 {
@@ -114,7 +114,7 @@ fn sound_descriptor(d: Descriptor, format: Format, signed: bool) -> bool
 
 // Each of the sixteen is tidy, and its given numbers can be stored.
 fn is_sound(description: Description, format: Format) -> bool
-    ensures { λ r. ⌜ r ≡ (tidy description && allFit (widthOf format) description) ⌝ }
+    ensures { λ r. ⌜ r ≡ (neat description && allFit (widthOf format) description) ⌝ }
 {
     let mut signs = channels::signs();
     let mut i: usize = 0;
@@ -168,9 +168,9 @@ fn judge_numbers(d: Descriptor, channel: usize, format: Format) -> Judgement
     Judgement::Passed
 }
 
-// The first number of a tidy description that is out of its range, channel after channel.
+// The first number of a neat description that is out of its range, channel after channel.
 fn first_misfit(description: Description, format: Format) -> Judgement
-    requires { ⌜ T (tidy description) ⌝ }
+    requires { ⌜ T (neat description) ⌝ }
     ensures { λ r. ⌜ r ≡ firstMisfit (numbers (widthOf format) description) ⌝ }
 {
     let mut i: usize = 0;
@@ -185,10 +185,10 @@ fn first_misfit(description: Description, format: Format) -> Judgement
     Judgement::Passed
 }
 
-// Whether a description can be written: refusals 4, 11 and 12 of document 01, stage by stage, so that an untidy R comes before
-// a number of X that is out of range.
+// Whether a description can be written in a format: refusals 4, 11 and 12 of document 01, stage by stage, so that an untidy R comes before
+// a number of X that is out of range. A description of the other format is refused with 11, whatever it says (request L4).
 pub fn judge(description: Description, format: Format) -> Judgement
-    ensures { λ r. ⌜ r ≡ judgementOf (widthOf format) description ⌝ }
+    ensures { λ r. ⌜ r ≡ judgementOf format description ⌝ }
 {
     let sound = is_sound(description, format);
     if !has_x_and_y(description) {
@@ -196,11 +196,15 @@ pub fn judge(description: Description, format: Format) -> Judgement
             place: Where::Nowhere,
         });
     }
+    let mark = description.mark;
+    if !channels::is_same(mark, format) {
+        return Judgement::Refused(Refusal::Untidy); // even where every number would fit
+    }
     if sound {
         return Judgement::Passed;
     }
     // Only here is it asked which of the two it is, and which number.
-    if !is_tidy(description) {
+    if !is_neat(description) {
         return Judgement::Refused(Refusal::Untidy); // whatever its numbers are
     }
     first_misfit(description, format)

@@ -17,5 +17,5 @@ one-size description format = named
 
 -- of the answer and the bytes together
 pub one-put : (out : List ℕ) (start : ℕ) (description : Description) (format : Format)
-    → OneAnswer (λ (w : Writing Written). writing (w .answer) (w .bytes) ≡ putIf (widthOf format) description out start)
+    → OneAnswer (λ (w : Writing Written). writing (w .answer) (w .bytes) ≡ putIf format description out start)
 one-put out start description format = named

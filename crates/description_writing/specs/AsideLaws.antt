@@ -11,7 +11,9 @@ use Rattle.formats.specs.Lent.{writing}
 use Rattle.refusals.specs.declared.Refusal.{Refusal}
 use Rattle.refusals.specs.declared.Judgement.{Judgement}
 use Rattle.refusals.specs.declared.Judgement.the-variants as judgement
+use Rattle.channels.specs.Channel.{widthOf}
 use Rattle.channels.specs.declared.Description.{Description}
+use Rattle.channels.specs.declared.Format.{Format}
 use Rattle.descriptions.specs.Description.{encodeDescription}
 use Rattle.description_judging.specs.Judging.{judgementOf}
 use Rattle.description_writing.specs.Write.{putIf}
@@ -19,20 +21,20 @@ use Rattle.description_writing.specs.WriteLaws.{put-done, put-refused}
 use Rattle.description_writing.specs.declared.Written.{Written}
 use Rattle.description_writing.specs.declared.Written.the-variants.{Done, Refused}
 
-module _ (w : ℕ) (d : Description) (s t : List ℕ) (a : Written) (p : writing a t ≡ putIf w d s 0) (h : length (encodeDescription w d) ≤ length s) where
+module _ (format : Format) (d : Description) (s t : List ℕ) (a : Written) (p : writing a t ≡ putIf format d s 0) (h : length (encodeDescription (widthOf format) d) ≤ length s) where
   abbrev bytes : List ℕ
-  bytes = encodeDescription w d
+  bytes = encodeDescription (widthOf format) d
 
-  done : judgementOf w d ≡ judgement.Passed → writing a t ≡ writing (Done (0 + length bytes)) (puts s 0 bytes)
-  done e = p ∙ put-done w d s 0 e (omega (arith, h))
+  done : judgementOf format d ≡ judgement.Passed → writing a t ≡ writing (Done (0 + length bytes)) (puts s 0 bytes)
+  done e = p ∙ put-done format d s 0 e (omega (arith, h))
 
-  refused : {refusal : Refusal} → judgementOf w d ≡ judgement.Refused refusal → a ≡ Refused refusal
-  refused e = ap (λ x. x .answer) (p ∙ put-refused w d s 0 e)
+  refused : {refusal : Refusal} → judgementOf format d ≡ judgement.Refused refusal → a ≡ Refused refusal
+  refused e = ap (λ x. x .answer) (p ∙ put-refused format d s 0 e)
 
-  pub aside-done : {n : ℕ} → a ≡ Done n → (judgementOf w d ≡ judgement.Passed) × (n ≤ length t) × (take (n - 0) t ≡ bytes)
-  aside-done {n} q = go (judgementOf w d) refl
+  pub aside-done : {n : ℕ} → a ≡ Done n → (judgementOf format d ≡ judgement.Passed) × (n ≤ length t) × (take (n - 0) t ≡ bytes)
+  aside-done {n} q = go (judgementOf format d) refl
     where
-      go : (j : Judgement) → judgementOf w d ≡ j → (judgementOf w d ≡ judgement.Passed) × (n ≤ length t) × (take (n - 0) t ≡ bytes)
+      go : (j : Judgement) → judgementOf format d ≡ j → (judgementOf format d ≡ judgement.Passed) × (n ≤ length t) × (take (n - 0) t ≡ bytes)
       go judgement.Passed e =
           let b = ap (λ x. x .bytes) (done e) in
           let f = ap (λ x. x .answer) (done e) in
@@ -44,9 +46,9 @@ module _ (w : ℕ) (d : Description) (s t : List ℕ) (a : Written) (p : writing
           )
       go (judgement.Refused refusal) e = let f = refused e in impossible (cc)
 
-  pub aside-refused : {refusal : Refusal} → a ≡ Refused refusal → judgementOf w d ≡ judgement.Refused refusal
-  aside-refused {refusal} q = go (judgementOf w d) refl
+  pub aside-refused : {refusal : Refusal} → a ≡ Refused refusal → judgementOf format d ≡ judgement.Refused refusal
+  aside-refused {refusal} q = go (judgementOf format d) refl
     where
-      go : (j : Judgement) → judgementOf w d ≡ j → j ≡ judgement.Refused refusal
+      go : (j : Judgement) → judgementOf format d ≡ j → j ≡ judgement.Refused refusal
       go judgement.Passed e = let f = ap (λ x. x .answer) (done e) in impossible (cc)
       go (judgement.Refused other) e = let f = refused e in cc

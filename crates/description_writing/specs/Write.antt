@@ -9,7 +9,9 @@ use Rattle.formats.specs.Lent.{Writing, writing}
 use Rattle.refusals.specs.declared.Refusal.the-variants.{Room}
 use Rattle.refusals.specs.declared.Judgement.{Judgement}
 use Rattle.refusals.specs.declared.Judgement.the-variants as judgement
+use Rattle.channels.specs.Channel.{widthOf}
 use Rattle.channels.specs.declared.Description.{Description}
+use Rattle.channels.specs.declared.Format.{Format}
 use Rattle.descriptions.specs.Description.{encodeDescription}
 use Rattle.description_judging.specs.Judging.{judgementOf}
 use Rattle.description_writing.specs.declared.Written.{Written}
@@ -25,5 +27,5 @@ putJudged judgement.Passed out start b = putRoom out start b
 putJudged (judgement.Refused refusal) out start b = writing (Refused refusal) out
 
 -- what writing a description does
-unfoldable pub putIf : (w : ℕ) → Description → (out : List ℕ) (start : ℕ) → Writing Written
-putIf w d out start = putJudged (judgementOf w d) out start (encodeDescription w d)
+unfoldable pub putIf : Format → Description → (out : List ℕ) (start : ℕ) → Writing Written
+putIf format d out start = putJudged (judgementOf format d) out start (encodeDescription (widthOf format) d)

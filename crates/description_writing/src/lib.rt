@@ -7,7 +7,6 @@ use refusals::Judgement;
 use refusals::Refusal;
 ghost use mathlib.Core.Path.{_≡_};
 ghost use mathlib.Core.Bool.{Bool, cond};
-ghost use mathlib.Core.List.{map};
 ghost use Prim.Native.Nat.{ℕ, _+_, _*_, _≤_};
 ghost use lib.Dec.{T, leb};
 ghost use lib.ListN.{length};
@@ -15,6 +14,7 @@ ghost use Rattle.formats.specs.Binary.{binary};
 ghost use Rattle.formats.specs.Laid.{Room, Laid};
 ghost use Rattle.formats.specs.Lent.{writing};
 ghost use Rattle.channels.specs.Channel.{signedOf, widthOf};
+ghost use Rattle.channels.specs.Descriptors.{included};
 ghost use Rattle.channels.specs.Stored.{valueOf};
 ghost use Rattle.descriptions.specs.Description.{fitsAttribute, fitsDescriptor, allFit, encodeAttribute, descriptorByte, encodeDescriptor, encodeChannel, encodeDescription};
 ghost use Rattle.description_writing.specs.Write.{putRoom, putIf};
@@ -83,7 +83,7 @@ fn descriptor_byte(d: Descriptor) -> u8
 
 // The inclusion bits: X has the highest, R the lowest (7.3.4.1).
 fn inclusion(description: Description) -> u16
-    ensures { λ r. ⌜ r ≡ binary (map (λ c. c .included) (description .channels)) ⌝ }
+    ensures { λ r. ⌜ r ≡ binary (included description) ⌝ }
 {
     let mut bits: u16 = 0;
     let mut i: usize = 0;
@@ -207,7 +207,7 @@ fn put_where_room(out: &mut [u8], start: usize, description: Description, format
 
 // The description is written from a place of the output on; where it is refused or there is no room, nothing is.
 pub fn put(out: &mut [u8], start: usize, description: Description, format: Format) -> Written
-    ensures { λ r. ⌜ writing r (now (out .exit)) ≡ putIf (widthOf format) description (now (out .entry)) start ⌝ }
+    ensures { λ r. ⌜ writing r (now (out .exit)) ≡ putIf format description (now (out .entry)) start ⌝ }
 {
     let judged = description_judging::judge(description, format);
     if let Judgement::Refused(refusal) = judged {

@@ -18,6 +18,7 @@ use Rattle.channels.specs.Channel.{signedOf}
 use Rattle.channels.specs.Stored.{valueOf}
 use Rattle.channels.specs.declared.Descriptor.{Descriptor}
 use Rattle.channels.specs.Descriptors.{noAttribute}
+use Rattle.channels.specs.declared.Format.{Format}
 use Rattle.descriptions.specs.Description.{hasXY, reserved, attribute, descriptor, description}
 use Rattle.descriptions.specs.Read.{channelsFrom}
 use Rattle.descriptions.specs.declared.AttributeRead.{AttributeRead}
@@ -103,24 +104,24 @@ lacks-xy b h =
     (λ q. rw (ne-eqb (b / 128 % 2) 1 (λ e. omega arith)))
     (λ q. rw (eq-eqb (b / 128 % 2) 1 (omega arith), ne-eqb (b / 64 % 2) 1 (λ e. omega arith)))
 
-module _ (w : ℕ) (s : List ℕ) (start : ℕ) where
-  pub description-out : length s ≤ start → readAt (description w) s start ≡ short
+module _ (format : Format) (s : List ℕ) (start : ℕ) where
+  pub description-out : length s ≤ start → readAt (description format) s start ≡ short
   unfolding description one bind
   description-out h = at-short hasXY _ s start h
 
-  pub description-bad : start < length s → getD s start 0 < 0xC0 → readAt (description w) s start ≡ bad 4 start
+  pub description-bad : start < length s → getD s start 0 < 0xC0 → readAt (description format) s start ≡ bad 4 start
   unfolding description one bind
   description-bad h q = at-fail hasXY _ s start h (lacks-xy (getD s start 0) q)
 
   module _ (h : start < length s) (low : 0xC0 ≤ getD s start 0) (high : getD s start 0 < 256) where
-    pub description-cut : length s ≤ start + 1 → readAt (description w) s start ≡ short
+    pub description-cut : length s ≤ start + 1 → readAt (description format) s start ≡ short
     unfolding description one bind
     description-cut q = at-pass hasXY _ s start h (has-xy (getD s start 0) low high) ∙ at-short any _ s (start + 1) q
 
     pub description-channels : start + 1 < length s
-        → readAt (description w) s start ≡ readAt (channelsFrom w (getD s start 0 * 256 + getD s (start + 1) 0)) s (start + 2)
+        → readAt (description format) s start ≡ readAt (channelsFrom format (getD s start 0 * 256 + getD s (start + 1) 0)) s (start + 2)
     unfolding description one bind channelsFrom map
     description-channels q =
         at-pass hasXY _ s start h (has-xy (getD s start 0) low high)
         ∙ at-pass any _ s (start + 1) q refl
-        ∙ ap (readAt (channelsFrom w (getD s start 0 * 256 + getD s (start + 1) 0)) s) {x = start + 1 + 1} {y = start + 2} (omega arith)
+        ∙ ap (readAt (channelsFrom format (getD s start 0 * 256 + getD s (start + 1) 0)) s) {x = start + 1 + 1} {y = start + 2} (omega arith)

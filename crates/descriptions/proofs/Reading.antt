@@ -17,9 +17,10 @@ use Rattle.formats.specs.declared.Failure.{Failure}
 use Rattle.formats.specs.declared.Failure.the-variants.{Short, Bad}
 use Rattle.formats.specs.declared.Outcome.{Outcome}
 use Rattle.formats.specs.declared.Outcome.the-variants.{Done, Failed}
-use Rattle.channels.specs.Channel.{channels, nth-channel}
+use Rattle.channels.specs.Channel.{channels, widthOf, nth-channel}
 use Rattle.channels.specs.declared.Descriptor.{Descriptor}
 use Rattle.channels.specs.declared.Description.{Description}
+use Rattle.channels.specs.declared.Format.{Format}
 use Rattle.channels.specs.Descriptors.{absent, isStored}
 use Rattle.descriptions.specs.Description.{descriptor, includes, channelOf}
 use Rattle.descriptions.specs.Read.{described, ended, behind, channelsFrom}
@@ -55,12 +56,15 @@ unset-all n channel i h = go n i
 -- ---- The channels that were gone through
 
 -- where there is no description
-failed-described : (x : Answer Description) {o : Outcome} (f : Failure) → o ≡ Failed f → x ≡ failed f → ended o ≡ described x
+failed-described : (format : Format) (x : Answer Description) {o : Outcome} (f : Failure) → o ≡ Failed f → x ≡ failed f → ended format o ≡ described format x
 unfolding described
-failed-described x Short h e = ap ended h ∙ sym (ap described e)
-failed-described x (Bad k p) h e = ap ended h ∙ sym (ap described e)
+failed-described format x Short h e = ap (ended format) h ∙ sym (ap (described format) e)
+failed-described format x (Bad k p) h e = ap (ended format) h ∙ sym (ap (described format) e)
 
-module _ (w inclusion : ℕ) (s : List ℕ) (start : ℕ) where
+module _ (format : Format) (inclusion : ℕ) (s : List ℕ) (start : ℕ) where
+  abbrev w : ℕ
+  w = widthOf format
+
   -- these descriptors were read of the channels before this one and these flags are theirs, nothing is said of the channels left, and the next descriptor stands here
   pub record Gone (ds : List Descriptor) (included stored : List Bool) (channel at : ℕ) : Type 0 where
     pub sixteen : length ds ≡ 16
@@ -112,19 +116,19 @@ module _ (w inclusion : ℕ) (s : List ℕ) (start : ℕ) where
 
       -- where a descriptor fails, the whole does
       pub gone-failed : includes inclusion channel ≡ true → {o : Outcome} {f : Failure} → o ≡ Failed f → o ≡ told (readAt (descriptor w channel) s at)
-          → ended o ≡ described (readAt (channelsFrom w inclusion) s start)
+          → ended format o ≡ described format (readAt (channelsFrom format inclusion) s start)
       unfolding channelsFrom
       gone-failed e {f = f} q z =
-          failed-described _ f q
+          failed-described format _ f q
           (at-map _ _ s start
           ∙ ap (mapped _) (gathered-failed channels _ s start 0 ds channel at h (g .gathered) f (with-descriptor e ∙ told-failed _ (sym q ∙ z)))
           ∙ mapped-failed _ f)
 
-    pub gone-all : 16 ≤ channel → record { outcome = Done at; included = included; stored = stored; description = record { channels = ds } } ≡ described (readAt (channelsFrom w inclusion) s start)
+    pub gone-all : 16 ≤ channel → record { outcome = Done at; included = included; stored = stored; description = record { channels = ds; mark = format } } ≡ described format (readAt (channelsFrom format inclusion) s start)
     unfolding channelsFrom mapped described
     gone-all h =
         rw (g .included-same, g .stored-same)
-        (sym (ap described (at-map _ _ s start ∙ ap (mapped _) (gathered-all channels _ s start ds channel at h (omega (arith, g .sixteen)) (g .gathered)))))
+        (sym (ap (described format) (at-map _ _ s start ∙ ap (mapped _) (gathered-all channels _ s start ds channel at h (omega (arith, g .sixteen)) (g .gathered)))))
 
   -- channels that aren't included leave all as it is
   pub gone-out : (left : ℕ) (ds : List Descriptor) (included stored : List Bool) (channel at : ℕ) → channel + left ≡ 16
@@ -141,6 +145,6 @@ module _ (next : ℕ → Answer Description) {x : Answer Description} {o : Outco
   unfolding behind
   behind-done h e = e ∙ ap (behind next) h
 
-  pub behind-failed : {f : Failure} → o ≡ Failed f → x ≡ behind next o → ended o ≡ described x
+  pub behind-failed : (format : Format) {f : Failure} → o ≡ Failed f → x ≡ behind next o → ended format o ≡ described format x
   unfolding behind
-  behind-failed {f} h e = failed-described x f h (e ∙ ap (behind next) h)
+  behind-failed format {f} h e = failed-described format x f h (e ∙ ap (behind next) h)

@@ -2,7 +2,7 @@
 -- `w` is the width of a minimum, a maximum, a mean and a deviation: two bytes in a record, one in a template.
 use mathlib.Core.Path.{_≡_}
 use mathlib.Core.Bool.{Bool, true, false, not, cond, _&&_, _||_}
-use mathlib.Core.List.{List, [], _∷_, _++_, map}
+use mathlib.Core.List.{List, [], _∷_, _++_}
 use Prim.Native.Nat.{ℕ, suc, _+_, _-_, _*_}
 use lib.Dec.{T, eqb}
 use lib.IntN.{natAbs}
@@ -10,12 +10,13 @@ use lib.ListN.{length, getD}
 use Rattle.formats.specs.Reader.{Test, Reader, done, one, any, each, _>>=_, _>>_}
 use Rattle.formats.specs.Number.{number, digits}
 use Rattle.formats.specs.Writes.{encodeEach}
-use Rattle.channels.specs.Channel.{X, Y, channels, signedOf}
-use Rattle.channels.specs.Descriptors.{noAttribute, absent}
+use Rattle.channels.specs.Channel.{X, Y, channels, signedOf, widthOf}
+use Rattle.channels.specs.Descriptors.{noAttribute, absent, included}
 use Rattle.channels.specs.Stored.{valueOf, storedOf, fits}
 use Rattle.channels.specs.declared.Attribute.{Attribute}
 use Rattle.channels.specs.declared.Descriptor.{Descriptor}
 use Rattle.channels.specs.declared.Description.{Description}
+use Rattle.channels.specs.declared.Format.{Format}
 use Rattle.formats.specs.Binary.{bit, binary}
 
 -- ---- What is read
@@ -68,13 +69,13 @@ includes inclusion channel = bit (16 - channel) inclusion
 unfoldable pub channelOf : (w inclusion channel : ℕ) → Reader Descriptor
 channelOf w inclusion channel = cond (includes inclusion channel) (descriptor w channel) (done absent)
 
--- the two inclusion bytes, and the included channels in order (7.3.4.1, 7.3.4.2)
-unfoldable pub description : (w : ℕ) → Reader Description
-description w = do
+-- the two inclusion bytes, and the included channels in order (7.3.4.1, 7.3.4.2); what is read of a format has its mark
+unfoldable pub description : Format → Reader Description
+description format = do
   first ← one hasXY
   second ← one any
-  ds ← each channels (channelOf w (first * 256 + second))
-  done (record { channels = ds })
+  ds ← each channels (channelOf (widthOf format) (first * 256 + second))
+  done (record { channels = ds; mark = format })
 
 -- ---- How it is written
 
@@ -112,7 +113,7 @@ encodeChannel w channel d = cond (d .included) (encodeDescriptor w channel d) []
 
 -- the inclusion bits in two bytes, and the channels in order
 unfoldable pub encodeDescription : (w : ℕ) → Description → List ℕ
-encodeDescription w d = digits 2 (binary (map (λ c. c .included) (d .channels))) ++ encodeEach (encodeChannel w) channels (d .channels)
+encodeDescription w d = digits 2 (binary (included d)) ++ encodeEach (encodeChannel w) channels (d .channels)
 
 -- ---- Which descriptions can be written
 
@@ -164,17 +165,21 @@ unfoldable pub every : (ℕ → Descriptor → Bool) → ℕ → List Descriptor
 every test i [] = true
 every test i (d ∷ ds) = test i d && every test (suc i) ds
 
--- each descriptor is tidy (refusal 11)
-unfoldable pub tidy : Description → Bool
-tidy d = every (λ i. tidyDescriptor) 0 (d .channels)
+-- document 01's tidy: each descriptor is (refusal 11)
+unfoldable pub neat : Description → Bool
+neat d = every (λ i. tidyDescriptor) 0 (d .channels)
 
 -- each number that is given is in its range (refusal 12)
 unfoldable pub allFit : (w : ℕ) → Description → Bool
 allFit w d = every (fitsDescriptor w) 0 (d .channels)
 
--- the descriptions that have an encoding
-pub record Valid (w : ℕ) (d : Description) : Type 0 where
+-- request L4's tidy: that, and each given number fits the mark
+unfoldable pub tidy : Description → Bool
+tidy d = neat d && allFit (widthOf (d .mark)) d
+
+-- the descriptions that have an encoding in a format
+pub record Valid (format : Format) (d : Description) : Type 0 where
   pub sixteen : length (d .channels) ≡ 16
   pub xy : T (includesXY d)
-  pub neat : T (tidy d)
-  pub ranges : T (allFit w d)
+  pub marked : d .mark ≡ format
+  pub tidy : T (tidy d)

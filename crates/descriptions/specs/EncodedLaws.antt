@@ -12,14 +12,15 @@ use lib.ListN.{length, getD, length-map, List·getD-map}
 use Rattle.formats.specs.Reader.{Reader, done, any}
 use Rattle.formats.specs.Number.{number, writes-number, two-digits}
 use Rattle.formats.specs.Writes.{Writes, Each, writes-as, writes-map, writes-done, writes-one, writes-each, writes-line}
-use Rattle.channels.specs.Channel.{channels, signedOf, from}
+use Rattle.channels.specs.Channel.{channels, signedOf, widthOf, from}
 use Rattle.channels.specs.Stored.{valueOf, storedOf, fits, stored-value, value-fits, stored-below, value-stored}
 use Rattle.channels.specs.declared.Attribute.{Attribute}
 use Rattle.channels.specs.declared.Descriptor.{Descriptor}
 use Rattle.channels.specs.declared.Description.{Description}
+use Rattle.channels.specs.declared.Format.{Format}
 use Rattle.formats.specs.Binary.{bit, binary, bits, binary-bits, bits-binary, binary-below}
 use Rattle.channels.specs.Descriptors.{noAttribute, absent}
-use Rattle.descriptions.specs.Description.{hasXY, reserved, attribute, descriptor, includes, channelOf, description, encodeAttribute, descriptorByte, encodeDescriptor, encodeChannel, encodeDescription, includesXY, tidyAttribute, flagless, tidyDescriptor, fitsAttribute, fitsDescriptor, every, tidy, allFit, Valid}
+use Rattle.descriptions.specs.Description.{hasXY, reserved, attribute, descriptor, includes, channelOf, description, encodeAttribute, descriptorByte, encodeDescriptor, encodeChannel, encodeDescription, includesXY, tidyAttribute, flagless, tidyDescriptor, fitsAttribute, fitsDescriptor, every, neat, allFit, tidy, Valid}
 
 -- ---- An attribute
 
@@ -339,18 +340,32 @@ true-is : (t : Bool) → T t → t ≡ true
 true-is true h = refl
 true-is false h = absurd h
 
-module _ (w : ℕ) (d : Description) where
-  valid : Channels w (mask d) 16 0 (d .channels) → hasXY .holds (mask d / 256) ≡ true → Valid w d
-  unfolding tidy allFit
-  valid c h = record { sixteen = c .many; xy = rw (xy-first d (mask d) (c .flags), h) tt; neat = c .neat; ranges = c .ranges }
+module _ (format : Format) (d : Description) where
+  -- what has the mark of a format is tidy where it is neat and its numbers fit that format
+  pub tidy-marked : d .mark ≡ format → T (neat d) → T (allFit (widthOf format) d) → T (tidy d)
+  unfolding tidy neat allFit
+  tidy-marked e h q = rw e (and-i (neat d) (allFit (widthOf format) d) h q)
 
-  as-channels : Valid w d → Channels w (mask d) 16 0 (d .channels)
-  unfolding tidy allFit
-  as-channels v = record { flags = bits-mask d (v .sixteen) .1; many = v .sixteen; neat = v .neat; ranges = v .ranges }
+  pub valid-neat : Valid format d → T (neat d)
+  unfolding tidy
+  valid-neat v = and-l (neat d) (allFit (widthOf (d .mark)) d) (v .tidy)
 
-pub writes-description : (w : ℕ) → Writes (description w) (encodeDescription w) (Valid w)
+  pub valid-fits : Valid format d → T (allFit (widthOf format) d)
+  unfolding tidy allFit
+  valid-fits v = rw (v .marked) at (and-r (neat d) (allFit (widthOf (d .mark)) d) (v .tidy))
+
+  valid : d .mark ≡ format → Channels (widthOf format) (mask d) 16 0 (d .channels) → hasXY .holds (mask d / 256) ≡ true → Valid format d
+  unfolding neat allFit
+  valid e c h = record { sixteen = c .many; xy = rw (xy-first d (mask d) (c .flags), h) tt; marked = e; tidy = tidy-marked e (c .neat) (c .ranges) }
+
+  as-channels : Valid format d → Channels (widthOf format) (mask d) 16 0 (d .channels)
+  unfolding neat allFit
+  as-channels v = record { flags = bits-mask d (v .sixteen) .1; many = v .sixteen; neat = valid-neat v; ranges = valid-fits v }
+
+pub writes-description : (format : Format) → Writes (description format) (encodeDescription (widthOf format)) (Valid format)
 unfolding description encodeDescription from
-writes-description w =
+writes-description format =
+    let w = widthOf format in
     writes-as
     (writes-line (λ d. mask d / 256) (writes-one hasXY) (λ a h.
     writes-line (λ d. mask d % 256) (writes-one any) (λ b g.
@@ -363,10 +378,10 @@ writes-description w =
     omega arith))
     (λ d h.
     let e : mask d / 256 * 256 + mask d % 256 ≡ mask d = omega arith in
-    (valid w d (all-of w (mask d) 16 0 (d .channels) refl (rw e at (h .1 .1 .0))) (h .0 .1), rw (append-nil, two-digits (mask d) (omega (arith, h .0 .0)))))
+    (valid format d (sym (ap (λ (x : Description). x .mark) (h .1 .1 .1))) (all-of w (mask d) 16 0 (d .channels) refl (rw e at (h .1 .1 .0))) (h .0 .1), rw (append-nil, two-digits (mask d) (omega (arith, h .0 .0)))))
     (λ d h.
     let e : mask d / 256 * 256 + mask d % 256 ≡ mask d = omega arith in
     let b = bits-mask d (h .sixteen) in (
       (omega (arith, b .0), sym (xy-first d (mask d) (b .1)) ∙ true-is (includesXY d) (h .xy)),
-      ((omega arith, refl), (rw e (of-all w (mask d) 16 0 (d .channels) refl (as-channels w d h)), refl)),
+      ((omega arith, refl), (rw e (of-all w (mask d) 16 0 (d .channels) refl (as-channels format d h)), λ j. record { channels = d .channels; mark = sym (h .marked) j })),
     ))

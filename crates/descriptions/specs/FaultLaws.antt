@@ -11,7 +11,8 @@ use Rattle.formats.specs.Bytes.{impossible}
 use Rattle.formats.specs.Reader.{done, any}
 use Rattle.formats.specs.Writes.{Writes, writes-as, writes-one}
 use Rattle.formats.specs.Faults.{Faults, Never, Then, here, later, InPart, faults-as, faults-never, faults-last, faults-bind, faults-one, faults-each, never-done, never-any, never-bind, never-number}
-use Rattle.channels.specs.Channel.{channels, signedOf}
+use Rattle.channels.specs.Channel.{channels, signedOf, widthOf}
+use Rattle.channels.specs.declared.Format.{Format}
 use Rattle.formats.specs.Binary.{bit}
 use Rattle.channels.specs.Descriptors.{absent}
 use Rattle.descriptions.specs.Description.{hasXY, reserved, attribute, descriptor, includes, channelOf, description, encodeChannel}
@@ -120,17 +121,6 @@ module _ (w : ℕ) where
         broken = (ap (includes (x .first * 256 + x .second)) (channel-at (x .channel) (x .within)) ∙ x .included, refl, refl, x .set);
       }))
 
-  pub faults-description : Faults (description w) (Breaks w [])
-  unfolding description
-  faults-description =
-      faults-as
-      (faults-bind (writes-one hasXY) (faults-one hasXY) (λ first h.
-      faults-bind (writes-one any) (faults-never never-any) (λ second h.
-      faults-last (faults-each (writes-described w (first * 256 + second)) (faults-channel w (first * 256 + second)) 0 channels) (λ ds.
-      never-done _))))
-      to
-      from
-
   -- the rest, behind `front`, breaks the rule behind other bytes too
   moved : (front : List ℕ) {before : List ℕ} {b k : ℕ} → Breaks w front before b k
       → (rest : List ℕ) × (before ≡ front ++ rest) × ((front′ before′ : List ℕ) → before′ ≡ front′ ++ rest → Breaks w front′ before′ b k)
@@ -162,3 +152,17 @@ module _ (w : ℕ) where
 
   pub breaks-alone : (front : List ℕ) {before : List ℕ} {b k : ℕ} → Breaks w front before b k → (rest : List ℕ) × (before ≡ front ++ rest) × Breaks w [] rest b k
   breaks-alone front x = let m = moved front x in (m .0, m .1, m .2 [] (m .0) refl)
+
+-- ---- The whole
+
+pub faults-description : (format : Format) → Faults (description format) (Breaks (widthOf format) [])
+unfolding description
+faults-description format =
+    let w = widthOf format in
+    faults-as
+    (faults-bind (writes-one hasXY) (faults-one hasXY) (λ first h.
+    faults-bind (writes-one any) (faults-never never-any) (λ second h.
+    faults-last (faults-each (writes-described w (first * 256 + second)) (faults-channel w (first * 256 + second)) 0 channels) (λ ds.
+    never-done _))))
+    (to w)
+    (from w)

@@ -1,7 +1,6 @@
 -- What the code that reads a description answers.
 use mathlib.Core.Path.{_≡_, refl, sym, ap, _∙_}
 use mathlib.Core.Bool.{Bool, false, cond}
-use mathlib.Core.List as list
 use Prim.Native.Nat.{ℕ, _+_}
 use lib.IntN.{ℤ}
 use lib.ListN.{replicate}
@@ -13,56 +12,56 @@ use Rattle.formats.specs.declared.Failure.{Failure}
 use Rattle.formats.specs.declared.Failure.the-variants.{Short, Bad}
 use Rattle.formats.specs.declared.Outcome.{Outcome}
 use Rattle.formats.specs.declared.Outcome.the-variants.{Done, Failed}
-use Rattle.channels.specs.Channel.{channels}
+use Rattle.channels.specs.Channel.{channels, widthOf}
 use Rattle.channels.specs.Stored.{valueOf}
 use Rattle.channels.specs.declared.Description.{Description}
-use Rattle.channels.specs.Descriptors.{absent, isStored}
+use Rattle.channels.specs.declared.Format.{Format}
+use Rattle.channels.specs.Descriptors.{absent, included, stored}
 use Rattle.descriptions.specs.Description.{channelOf}
 use Rattle.descriptions.specs.declared.Inclusion.{Inclusion}
 use Rattle.descriptions.specs.declared.Described.{Described}
 use Rattle.descriptions.specs.declared.Measured.{Measured}
 
--- sixteen channels, none of them included
-unfoldable pub nothing : Description
-nothing = record { channels = replicate 16 absent }
+-- sixteen channels, none of them included, and the mark of the format that was looked for
+unfoldable pub nothing : Format → Description
+nothing format = record { channels = replicate 16 absent; mark = format }
 
 -- how it ended, where there is no description
-abbrev pub ended : Outcome → Described
-ended o = record { outcome = o; included = replicate 16 false; stored = replicate 16 false; description = nothing }
+abbrev pub ended : Format → Outcome → Described
+ended format o = record { outcome = o; included = replicate 16 false; stored = replicate 16 false; description = nothing format }
 
 -- how it ended, of each channel whether it is included and whether a sample point holds a number of it, and the description where there is one
-unfoldable pub described : Answer Description → Described
-described (ok d n) = record {
-  outcome = Done n;
-  included = list.map (λ c. c .included) (d .channels);
-  stored = list.map isStored (d .channels);
-  description = d;
-}
-described short = ended (Failed Short)
-described (bad k p) = ended (Failed (Bad k p))
+unfoldable pub described : Format → Answer Description → Described
+described format (ok d n) = record { outcome = Done n; included = included d; stored = stored d; description = d }
+described format short = ended format (Failed Short)
+described format (bad k p) = ended format (Failed (Bad k p))
 
--- the same without the description
+-- the same without the description, and where there is none
+abbrev pub unmeasured : Outcome → Measured
+unmeasured o = record { outcome = o; included = replicate 16 false; stored = replicate 16 false }
+
 abbrev pub undescribed : Described → Measured
 undescribed d = record { outcome = d .outcome; included = d .included; stored = d .stored }
 
-unfoldable pub measured : Answer Description → Measured
-measured x = undescribed (described x)
+unfoldable pub measured : Format → Answer Description → Measured
+measured format x = undescribed (described format x)
 
 -- what was described, taken back to the answer
-outcome-told : (x : Answer Description) → described x .outcome ≡ told x
-unfolding described told
-outcome-told (ok d n) = refl
-outcome-told short = refl
-outcome-told (bad k p) = refl
+module _ (format : Format) where
+  outcome-told : (x : Answer Description) → described format x .outcome ≡ told x
+  unfolding described told
+  outcome-told (ok d n) = refl
+  outcome-told short = refl
+  outcome-told (bad k p) = refl
 
-pub described-done : (x : Answer Description) {n : ℕ} → described x .outcome ≡ Done n → x ≡ ok (described x .description) n
-unfolding described
-described-done (ok d m) e = ap (ok d) (cc)
-described-done short e = impossible (cc)
-described-done (bad k p) e = impossible (cc)
+  pub described-done : (x : Answer Description) {n : ℕ} → described format x .outcome ≡ Done n → x ≡ ok (described format x .description) n
+  unfolding described
+  described-done (ok d m) e = ap (ok d) (cc)
+  described-done short e = impossible (cc)
+  described-done (bad k p) e = impossible (cc)
 
-pub described-failed : (x : Answer Description) {f : Failure} → described x .outcome ≡ Failed f → x ≡ failed f
-described-failed x e = told-failed x (sym e ∙ outcome-told x)
+  pub described-failed : (x : Answer Description) {f : Failure} → described format x .outcome ≡ Failed f → x ≡ failed f
+  described-failed x e = told-failed x (sym e ∙ outcome-told x)
 
 -- ---- What its parts answer
 
@@ -75,8 +74,8 @@ behind next (Done n) = next n
 behind next (Failed f) = failed f
 
 -- the descriptors, behind the inclusion bytes
-unfoldable pub channelsFrom : (w inclusion : ℕ) → Reader Description
-channelsFrom w inclusion = map (λ ds. record { channels = ds }) (each channels (channelOf w inclusion))
+unfoldable pub channelsFrom : Format → (inclusion : ℕ) → Reader Description
+channelsFrom format inclusion = map (λ ds. record { channels = ds; mark = format }) (each channels (channelOf (widthOf format) inclusion))
 
 -- the number that is stored as 0, with a sign or without
 abbrev pub Least : (w : ℕ) → ℤ → Type 0

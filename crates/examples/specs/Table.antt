@@ -5,7 +5,7 @@
 -- promises `told r ≡ reading raw e f`, and none can meet its promise by a second answer. The right sides of these equations are what is
 -- computed here.
 use mathlib.Core.Path.{_≡_, refl}
-use mathlib.Core.Bool.{Bool, true, false, not, cond}
+use mathlib.Core.Bool.{Bool, true, false}
 use mathlib.Core.List.{List, [], _∷_, _++_, map}
 use Prim.Native.Nat.{ℕ}
 use lib.IntN.{ℤ, pos, negsuc}
@@ -31,6 +31,7 @@ use Rattle.channels.specs.declared.Description.{Description}
 use Rattle.channels.specs.declared.Place.{Place}
 use Rattle.channels.specs.declared.Place.the-variants.{Absent, Constant, Number}
 use Rattle.channels.specs.Descriptors.{noAttribute, absent}
+use Rattle.channels.specs.declared.Format.the-variants.{Full, Compact}
 use Rattle.descriptions.specs.Description.{attribute, descriptor, includes, channelOf, description}
 use Rattle.descriptions.specs.Read.{nothing}
 use Rattle.points.specs.Points.{storedFrom, channels, sample, point}
@@ -123,7 +124,7 @@ single n d places = says (verdict.Record n 1 false) d accepted pointed.Point pla
 
 -- a refusal, with its number and its place; 1 has none
 abbrev refusal : (number : ℕ) → Where → Refusal → Answered
-refusal number place r = says (verdict.Refused r) nothing (refused number place) (pointed.Refused r) nowhere
+refusal number place r = says (verdict.Refused r) (nothing Full) (refused number place) (pointed.Refused r) nowhere
 
 abbrev short : Answered
 short = refusal 1 Nowhere Short
@@ -142,7 +143,7 @@ plain constant = record {
 }
 
 abbrev described : Descriptor → Descriptor → Description
-described x y = record { channels = x ∷ y ∷ replicate 14 absent }
+described x y = record { channels = x ∷ y ∷ replicate 14 absent; mark = Full }
 
 abbrev both : Description
 both = described (plain false) (plain false)
@@ -174,7 +175,7 @@ table =
     ∷ (bytes (set M 13 0x01) is refusal 7 (At 13) (OpeningBits 13))  -- P7
     ∷ (bytes (set M 16 0x01 ++ 0x7F ∷ 0xFF ∷ 0x80 ∷ 0x00 ∷ []) is single 21 both (xy (Number (negsuc 0)) (Number (pos 0))))  -- P8: X -1, Y 0
     ∷ (bytes (set (set M 10 0x04) 16 0x01 ++ 0x80 ∷ 0x05 ∷ []) is single 19 constantX (xy Constant (Number (pos 5))))  -- P9: X constant, Y 5
-    ∷ (template (0xB1 ∷ 0x03 ∷ 0x82 ∷ 0x01 ∷ 0x64 ∷ []) is judgedAs accepted (templates.accepted (saying false nothing true 100)))  -- P10
+    ∷ (template (0xB1 ∷ 0x03 ∷ 0x82 ∷ 0x01 ∷ 0x64 ∷ []) is judgedAs accepted (templates.accepted (saying false (nothing Compact) true 100)))  -- P10
     ∷ (template (0xB1 ∷ 0x04 ∷ 0x82 ∷ 0x02 ∷ 0x00 ∷ 0x64 ∷ []) is judgedAs (refused 18 Nowhere) (templates.refused Maximum))  -- P11
     ∷ (scaled 26 1952 (pos 1 ∷ negsuc 0 ∷ pos 3 ∷ []) is read (value (pos 1) ∷ value (negsuc 0) ∷ value (pos 2) ∷ []))  -- P12: 1, -1 and 3 are 1, -1 and 2
     ∷ []

@@ -42,6 +42,17 @@ module _ {A : Type 0} (s : List ℕ) where
   parts short k e = impossible (cc)
   parts (bad j p) k e = impossible (cc)
 
+-- as many as were asked for
+pub times-length : {A : Type 0} (r : Reader A) (s : List ℕ) (n at : ℕ) {vs : List A} {m : ℕ} → readAt (times n r) s at ≡ ok vs m → length vs ≡ n
+unfolding times
+times-length {A} r s zero at {vs} e =
+    let z : readAt {A = List A} (done []) s at ≡ ok [] at = at-done [] s at in
+    let x : vs ≡ [] = cc in
+    ap length x
+times-length r s (suc n) at e =
+    let p = parts s (readAt r s at) (readAt (times n r) s) (sym (at-times s at n r) ∙ e) in
+    ap length (p .whole) ∙ ap suc (times-length r s n (p .place) (p .second))
+
 -- the ith of n
 module _ {A : Type 0} (r : Reader A) (w : ℕ) (fixed : Fixed r w) (d : A) (s : List ℕ) where
   pub nth : (n at : ℕ) {vs : List A} {m : ℕ} → at ≤ length s → readAt (times n r) s at ≡ ok vs m

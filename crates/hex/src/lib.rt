@@ -80,3 +80,8 @@ pub fn hex_in(word: &[u8], bytes: &mut [u8]) -> Amount
     }
     bytes_in(word, bytes)
 }
+
+// The first of some bytes that a line said.
+pub fn first<'a>(space: &'a [u8; 131072], count: usize) -> &'a [u8] {
+    words::part(space, 0, count)
+}

@@ -10,7 +10,8 @@ use Rattle.formats.specs.Bytes.{Bytes}
 use Rattle.formats.specs.Reader.{Answer, ok, short, bad, readAt}
 use Rattle.channels.specs.declared.Description.{Description}
 use Rattle.points.specs.Points.{point, width}
-use Rattle.records.specs.Record.{header, stored}
+use Rattle.channels.specs.Descriptors.{stored}
+use Rattle.records.specs.Record.{header}
 use Rattle.record_fronts.specs.Front.{Heading, front}
 use Rattle.lookups.specs.Lookup.{startOf, lookUp}
 

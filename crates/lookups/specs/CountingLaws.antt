@@ -22,14 +22,14 @@ use Rattle.formats.specs.Writes.{writes-literal, written-read}
 use Rattle.formats.specs.declared.Failure.the-variants.{Short, Bad}
 use Rattle.refusals.specs.declared.Refusal.the-variants.{NoPoint}
 use Rattle.channels.specs.Channel.{signedOf}
-use Rattle.channels.specs.Descriptors.{isStored}
+use Rattle.channels.specs.Descriptors.{isStored, stored}
 use Rattle.channels.specs.Stored.{offset, valueOf}
 use Rattle.channels.specs.declared.Description.{Description}
 use Rattle.tip_switch.specs.Switch.{stateOf}
 use Rattle.descriptions.specs.Description.{attribute, descriptor, includes, channelOf, description}
 use Rattle.points.specs.Points.{storedFrom, channels, sample, point, widths, width}
 use Rattle.points.specs.Laws.{fixed-point, full-width}
-use Rattle.records.specs.Record.{identifierBytes, versionBytes, header, stored, fullRecord}
+use Rattle.records.specs.Record.{identifierBytes, versionBytes, header, fullRecord}
 use Rattle.records.specs.Rules.{Breaks, identifier, version, xOrY, descriptorBit, reservedByte, openingBits, penState}
 use Rattle.records.specs.Blame.{refused-exactly}
 use Rattle.identifications.specs.Identification.{identification}

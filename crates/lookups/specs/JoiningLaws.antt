@@ -7,6 +7,7 @@ use native.Mathlib.Omega.{arith}
 use lib.Dec.{ltb}
 use lib.ListN.{length}
 use borrow.Author.Tests.{ltb-true}
+use Rattle.formats.specs.Fixed.{times-length}
 use Rattle.formats.specs.Bytes.{impossible}
 use Rattle.formats.specs.Reader.{Answer, ok, short, bad, run, readAt, times}
 use Rattle.formats.specs.Compose.{at-start, at-bind, at-done, at-within, then-ok}
@@ -14,9 +15,9 @@ use Rattle.formats.specs.Sight.{seen}
 use Rattle.points.specs.Points.{point}
 use Rattle.points.specs.Laws.{nth-point}
 use Rattle.point_places.specs.Places as places
-use Rattle.records.specs.Record.{Record, stored, extension, fullRecord}
+use Rattle.channels.specs.Descriptors.{stored}
+use Rattle.records.specs.Record.{Record, extension, fullRecord}
 use Rattle.record_fronts.specs.Front.{Heading, front, body, in-two}
-use Rattle.record_layouts.specs.LayoutLaws.{times-length}
 use Rattle.record_reading.specs.Verdict.{judged, verdictFrom}
 use Rattle.record_reading.specs.declared.Verdict.the-variants as verdict
 use Rattle.record_points.specs.Pointing.{pointedAt, placesIn}

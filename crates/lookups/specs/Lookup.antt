@@ -15,7 +15,7 @@ use Rattle.refusals.specs.declared.Refusal.the-variants.{NoPoint}
 use Rattle.channels.specs.declared.Place.{Place}
 use Rattle.points.specs.Points.{point, width}
 use Rattle.point_places.specs.Places.{nowhere, placesIn}
-use Rattle.records.specs.Record.{included, stored}
+use Rattle.channels.specs.Descriptors.{included, stored}
 use Rattle.record_fronts.specs.Front.{Heading, front}
 use Rattle.record_points.specs.declared.Pointed.{Pointed}
 use Rattle.record_points.specs.declared.Pointed.the-variants as pointed

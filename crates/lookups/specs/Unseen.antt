@@ -5,7 +5,7 @@ use Prim.Native.Nat.{ℕ, _<_}
 use Rattle.formats.specs.Reader.{ok, readAt}
 use Rattle.formats.specs.Sight.{Same}
 use Rattle.points.specs.Points.{point}
-use Rattle.records.specs.Record.{stored}
+use Rattle.channels.specs.Descriptors.{stored}
 use Rattle.record_fronts.specs.Front.{Heading, front}
 use Rattle.lookups.specs.Lookup.{startOf, lookUp}
 

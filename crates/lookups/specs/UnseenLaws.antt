@@ -12,7 +12,7 @@ use Rattle.formats.specs.SightLaws.{same-read, same-seen}
 use Rattle.refusals.specs.declared.Refusal.the-variants.{NoPoint}
 use Rattle.point_places.specs.Places.{placesIn}
 use Rattle.points.specs.Points.{point}
-use Rattle.records.specs.Record.{included, stored}
+use Rattle.channels.specs.Descriptors.{included, stored}
 use Rattle.record_fronts.specs.Front.{Heading, front}
 use Rattle.lookups.specs.Lookup.{refused, pointRead, startOf, pointAt, behindFront, lookUp}
 use Rattle.lookups.specs.Unseen.{NoOtherByte}

@@ -186,3 +186,12 @@ pub fn values_in(word: &[u8], values: &mut [i32]) -> Amount
     }
     hex::no_amount()
 }
+
+// The first of some values that a line said.
+pub fn first<'a>(values: &'a [i32; 131072], count: usize) -> &'a [i32] {
+    let all: &[i32] = values;
+    if 131072 < count {
+        return &all[0..0];
+    }
+    &all[0..count]
+}

@@ -19,7 +19,6 @@ use Rattle.points.specs.Points.{switch, sample, sampleSize}
 
 -- a number has one byte or two
 pub one-or-two : (format : Format) → (1 ≤ widthOf format) × (widthOf format ≤ 2)
-unfolding widthOf
 one-or-two Full = (omega arith, omega arith)
 one-or-two Compact = (omega arith, omega arith)
 

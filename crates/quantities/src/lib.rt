@@ -1,4 +1,4 @@
-// Which number was out of its range, as words of the console.
+// Which number was out of its range, or what did not fit the compact format, as words of the console.
 use refusals::AttributeName;
 use refusals::Quantity;
 
@@ -15,12 +15,14 @@ const EXPONENT: usize = 4;
 
 const FRACTION: usize = 5;
 
+const EXTENDED: usize = 6;
+
 fn put_word(text: &mut [u8; 65536], start: u16, word: usize) -> u16 {
     let used = texts::put(text, start, b' ');
     texts::put_bytes(
         text,
         used,
-        words::name(b"count value maximum raw E F", b' ', word),
+        words::name(b"count value maximum raw E F extended", b' ', word),
     )
 }
 
@@ -58,5 +60,6 @@ pub fn put(text: &mut [u8; 65536], used: u16, quantity: Quantity) -> u16 {
         Quantity::Raw => put_word(text, used, RAW),
         Quantity::Exponent => put_word(text, used, EXPONENT),
         Quantity::Fraction => put_word(text, used, FRACTION),
+        Quantity::ExtendedData => put_word(text, used, EXTENDED),
     }
 }

@@ -32,10 +32,18 @@ const THOUSANDTHS: usize = 13;
 
 const PLACE: usize = 14;
 
-// The question of a name, or 15 where there is no such question.
+const BODY: usize = 15;
+
+const BODY_POINT: usize = 16;
+
+const WRITE_BODY: usize = 17;
+
+const TURN: usize = 18;
+
+// The question of a name, or 19 where there is no such question.
 fn question_of(name: &[u8]) -> usize {
     words::which(
-        b"judge whole extended rest template columns point step look-up columns-in write write-columns write-template thousandths place",
+        b"judge whole extended rest template columns point step look-up columns-in write write-columns write-template thousandths place body body-point write-body turn",
         b' ',
         name,
     )
@@ -53,6 +61,10 @@ pub fn answer(text: &mut [u8; 65536], used: u16, line: &[u8]) -> u16 {
         WRITE_TEMPLATE => writing_questions::write_template(text, used, line, span.to),
         THOUSANDTHS => reading_questions::raw(text, used, line, span.to),
         PLACE => reading_questions::place(text, used, line, span.to),
+        BODY => body_questions::body(text, used, line, span.to),
+        BODY_POINT => body_questions::point(text, used, line, span.to),
+        WRITE_BODY => body_questions::write(text, used, line, span.to),
+        TURN => body_questions::turn(text, used, line, span.to),
         _ => answers::cannot(text, used, answers::NO_SUCH_QUESTION),
     }
 }
@@ -88,11 +100,6 @@ fn rest_of(line: &[u8], at: usize, space: &mut [u8; 131072]) -> Amount {
     hex::bytes_in(words::part(line, at, line.len()), space)
 }
 
-// The first bytes of some that were lent.
-fn lent<'a>(space: &'a [u8; 131072], count: usize) -> &'a [u8] {
-    words::part(space, 0, count)
-}
-
 // The bytes that the rest of a line says. A line says at most half as many bytes as it has.
 fn of_bytes(
     text: &mut [u8; 65536],
@@ -107,7 +114,13 @@ fn of_bytes(
     if !amount.good {
         return answers::cannot(text, used, words::NOT_BYTES);
     }
-    ask(text, used, question, index, lent(&space, amount.count))
+    ask(
+        text,
+        used,
+        question,
+        index,
+        hex::first(&space, amount.count),
+    )
 }
 
 // What is asked of bytes; of a point its index is told, of a step its place, and of columns how many numbers are lent.

@@ -10,6 +10,7 @@ use native.Mathlib.Omega.{arith}
 use lib.IntN.{ℤ, pos}
 use lib.ListN.{length, getD, set, drop, length-set, length-append}
 use lib.Seq.{getD-set-same, getD-set-other}
+use Rattle.formats.specs.Fixed.{times-length}
 use Rattle.formats.specs.Bytes.{impossible}
 use Rattle.formats.specs.Compose.{ok-value}
 use Rattle.formats.specs.Reader.{ok, readAt, times}
@@ -24,7 +25,6 @@ use Rattle.orders.specs.Orders.{size, valuesOf}
 use Rattle.orders.specs.OrderLaws.{rankAt, index-within, strides-within, rank-at, same-values, all-sized, values-many, value-is}
 use Rattle.orders.specs.Parts.{AllAt}
 use Rattle.orders.specs.declared.Order.{Order}
-use Rattle.record_layouts.specs.LayoutLaws.{times-length}
 use Rattle.record_columns.specs.Parts.{NumberAt, ChannelFilled, PointsFilled}
 
 -- ---- One number

@@ -20,7 +20,8 @@ use Rattle.points.specs.Points.{point, width}
 use Rattle.points.specs.Laws.{fixed-point}
 use Rattle.orders.specs.Orders.{size}
 use Rattle.orders.specs.declared.Order.the-variants.{Column}
-use Rattle.records.specs.Record.{Record, stored, fullRecord}
+use Rattle.channels.specs.Descriptors.{stored}
+use Rattle.records.specs.Record.{Record, fullRecord}
 use Rattle.record_fronts.specs.Front.{front}
 use Rattle.record_fronts.specs.Fronted.{frontIn}
 use Rattle.record_fronts.specs.declared.Front.{Front}

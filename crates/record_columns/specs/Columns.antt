@@ -12,7 +12,8 @@ use Rattle.refusals.specs.Table.{refusalOf}
 use Rattle.refusals.specs.declared.Refusal.the-variants.{LeftOver, Amount}
 use Rattle.orders.specs.Orders.{size, valuesOf}
 use Rattle.orders.specs.declared.Order.the-variants.{Column}
-use Rattle.records.specs.Record.{Record, fullRecord, stored}
+use Rattle.channels.specs.Descriptors.{stored}
+use Rattle.records.specs.Record.{Record, fullRecord}
 use Rattle.record_columns.specs.declared.Filled.{Filled}
 use Rattle.record_columns.specs.declared.Filled.the-variants.{Columns, Refused}
 

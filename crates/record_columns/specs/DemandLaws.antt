@@ -22,7 +22,8 @@ use Rattle.orders.specs.Orders.{size, Same, valuesOf}
 use Rattle.orders.specs.OrderLaws.{points-many, values-many, values-again, both-orders}
 use Rattle.orders.specs.declared.Order.the-variants.{Point, Column}
 use Rattle.values.specs.ValueLaws.{valid-sizes, fits-valid}
-use Rattle.records.specs.Record.{Record, fullRecord, stored}
+use Rattle.channels.specs.Descriptors.{stored}
+use Rattle.records.specs.Record.{Record, fullRecord}
 use Rattle.records.specs.Demands.{write-after-read}
 use Rattle.record_reading.specs.Verdict.{verdictFrom, judged, unjudged, judgedWhole}
 use Rattle.record_reading.specs.declared.Verdict.the-variants as verdict

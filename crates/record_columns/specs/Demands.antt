@@ -12,7 +12,7 @@ use Rattle.refusals.specs.declared.Refusal.the-variants.{Amount}
 use Rattle.channels.specs.declared.Description.{Description}
 use Rattle.channels.specs.declared.Place.{Place}
 use Rattle.orders.specs.Orders.{size, Same}
-use Rattle.records.specs.Record.{stored}
+use Rattle.channels.specs.Descriptors.{stored}
 use Rattle.record_reading.specs.declared.Judged.{Judged}
 use Rattle.record_reading.specs.declared.Verdict.the-variants as verdict
 use Rattle.record_writing.specs.declared.Written.{Written}

@@ -20,6 +20,7 @@ use Rattle.descriptions.specs.EncodedLaws.{writes-description}
 use Rattle.records.specs.Record.{identifierBytes, versionBytes, opening, openingByte, header}
 use Rattle.records.specs.EncodedLaws.{opening-is, opening-good}
 use Rattle.records.specs.Sizes.{header-size}
+use Rattle.channels.specs.declared.Format.the-variants.{Full}
 use Rattle.identifications.specs.Identification.{identification}
 use Rattle.record_fronts.specs.Front.{Heading, Opening, headed, opened, channelled, front}
 
@@ -34,7 +35,7 @@ abbrev pub encodeFront : Heading → List ℕ
 encodeFront h = header (h .description) ++ (openingByte (announcedBy (h .announced)) ∷ []) ++ digits 3 (h .count)
 
 abbrev pub ValidFront : Heading → Type 0
-ValidFront h = described.Valid 2 (h .description) × (h .count < 256 ^ 3)
+ValidFront h = described.Valid Full (h .description) × (h .count < 256 ^ 3)
 
 abbrev openingOf : Heading → Opening
 openingOf h = record { announced = h .announced; count = h .count }
@@ -64,10 +65,10 @@ writes-identification = writes-line (λ u. tt) (writes-literal _ _ tt) (λ u h. 
 
 writes-channelled : Writes channelled
     (λ h. encodeDescription 2 (h .description) ++ 0x00 ∷ openingByte (announcedBy (h .announced)) ∷ digits 3 (h .count))
-    (λ h. described.Valid 2 (h .description) × ((h .count < 256 ^ 3) × (headed (h .description) (openingOf h) ≡ h)))
+    (λ h. described.Valid Full (h .description) × ((h .count < 256 ^ 3) × (headed (h .description) (openingOf h) ≡ h)))
 unfolding channelled map
 writes-channelled =
-    writes-line (λ h. h .description) (writes-description 2) (λ d q. writes-map writes-opened (headed d) openingOf (λ o g. refl)) (λ d h q g. sym (ap (λ x. x .description) (g .1)))
+    writes-line (λ h. h .description) (writes-description Full) (λ d q. writes-map writes-opened (headed d) openingOf (λ o g. refl)) (λ d h q g. sym (ap (λ x. x .description) (g .1)))
 
 pub writes-front : Writes front encodeFront ValidFront
 unfolding front

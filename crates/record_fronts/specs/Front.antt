@@ -9,7 +9,9 @@ use Rattle.formats.specs.Number.{number}
 use Rattle.channels.specs.declared.Description.{Description}
 use Rattle.descriptions.specs.Description.{description}
 use Rattle.points.specs.Points.{point}
-use Rattle.records.specs.Record.{Record, stored, opening, extension, fullRecord}
+use Rattle.channels.specs.Descriptors.{stored}
+use Rattle.channels.specs.declared.Format.the-variants.{Full}
+use Rattle.records.specs.Record.{Record, opening, extension, fullRecord}
 use Rattle.identifications.specs.Identification.{identification}
 
 -- what stands before the points: the channels, whether extended data are announced, and the number of points
@@ -36,7 +38,7 @@ headed d o = record { description = d; announced = o .announced; count = o .coun
 
 unfoldable pub channelled : Reader Heading
 channelled = do
-  d ← description 2
+  d ← description Full
   o ← opened
   done (headed d o)
 
@@ -59,9 +61,9 @@ unfolding bind
 bind-assoc (done v) k l = refl
 bind-assoc (byte c f) k l = λ i. byte c (λ b. bind-assoc (f b) k l i)
 
-channelled-body : bind channelled body ≡ bind (description 2) (λ d. bind opened (λ o. body (headed d o)))
+channelled-body : bind channelled body ≡ bind (description Full) (λ d. bind opened (λ o. body (headed d o)))
 unfolding channelled bind
-channelled-body = bind-assoc (description 2) _ body ∙ (λ i. bind (description 2) (λ d. bind-assoc opened (λ o. done (headed d o)) body i))
+channelled-body = bind-assoc (description Full) _ body ∙ (λ i. bind (description Full) (λ d. bind-assoc opened (λ o. done (headed d o)) body i))
 
 opened-body : (d : Description) → bind opened (λ o. body (headed d o))
     ≡ bind (literal 6 (0x00 ∷ []) tt) (λ u. bind (one opening) (λ b. bind (number 3) (λ count. body (record { description = d; announced = bit 8 b; count = count }))))
@@ -69,10 +71,10 @@ unfolding opened bind literal one
 opened-body d =
     λ i. bind (literal 6 (0x00 ∷ []) tt) (λ u. bind (one opening) (λ b. bind-assoc (number 3) (λ count. done (record { announced = bit 8 b; count = count })) (λ o. body (headed d o)) i))
 
-front-body : bind front body ≡ bind identification (λ u. bind (description 2) (λ d. bind opened (λ o. body (headed d o))))
+front-body : bind front body ≡ bind identification (λ u. bind (description Full) (λ d. bind opened (λ o. body (headed d o))))
 unfolding front
 front-body = bind-assoc identification _ body ∙ (λ i. bind identification (λ u. channelled-body i))
 
 pub in-two : fullRecord ≡ bind front body
 unfolding fullRecord body identification literal bind
-in-two = sym (front-body ∙ (λ i. bind identification (λ u. bind (description 2) (λ d. opened-body d i))))
+in-two = sym (front-body ∙ (λ i. bind identification (λ u. bind (description Full) (λ d. opened-body d i))))

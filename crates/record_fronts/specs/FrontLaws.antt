@@ -13,7 +13,8 @@ use Rattle.formats.specs.declared.Outcome.the-variants.{Done, Failed}
 use Rattle.channels.specs.declared.Description.{Description}
 use Rattle.descriptions.specs.Description.{description}
 use Rattle.descriptions.specs.Read.{described, measured}
-use Rattle.records.specs.Record.{included, stored}
+use Rattle.channels.specs.Descriptors.{included, stored}
+use Rattle.channels.specs.declared.Format.the-variants.{Full}
 use Rattle.identifications.specs.Identification.{identification}
 use Rattle.record_fronts.specs.Front.{Opening, headed, opened, channelled, front}
 use Rattle.record_fronts.specs.Fronted.{openedAs, frontIn, unfronted, fronted, frontFrom, frontAfter, frontBehind}
@@ -66,12 +67,12 @@ module _ (s : List ℕ) where
   by-opening d (bad k p) = refl
 
   by-channels : (x : Answer Description)
-      → fronted (andThen x (λ d n. readAt (bind opened (λ o. done (headed d o))) s n)) ≡ frontBehind s (measured x)
+      → fronted (andThen x (λ d n. readAt (bind opened (λ o. done (headed d o))) s n)) ≡ frontBehind s (measured Full x)
   unfolding andThen frontIn told frontAfter measured described
   by-channels (ok d n) = ap fronted (at-bind (λ o. done (headed d o)) opened s n) ∙ by-opening d (readAt opened s n)
   by-channels short = refl
   by-channels (bad k p) = refl
 
-  pub channelled-is : (at : ℕ) → frontBehind s (measured (readAt (description 2) s at)) ≡ fronted (readAt channelled s at)
+  pub channelled-is : (at : ℕ) → frontBehind s (measured Full (readAt (description Full) s at)) ≡ fronted (readAt channelled s at)
   unfolding channelled
-  channelled-is at = sym (ap fronted (at-bind (λ d. bind opened (λ o. done (headed d o))) (description 2) s at) ∙ by-channels (readAt (description 2) s at))
+  channelled-is at = sym (ap fronted (at-bind (λ d. bind opened (λ o. done (headed d o))) (description Full) s at) ∙ by-channels (readAt (description Full) s at))

@@ -10,7 +10,7 @@ use Rattle.formats.specs.declared.Failure.the-variants.{Short, Bad}
 use Rattle.formats.specs.declared.Outcome.{Outcome}
 use Rattle.formats.specs.declared.Outcome.the-variants.{Done, Failed}
 use Rattle.descriptions.specs.declared.Measured.{Measured}
-use Rattle.records.specs.Record.{included, stored}
+use Rattle.channels.specs.Descriptors.{included, stored}
 use Rattle.record_fronts.specs.Front.{Heading, Opening, opened}
 use Rattle.record_fronts.specs.declared.Opened.{Opened}
 use Rattle.record_fronts.specs.declared.Front.{Front}

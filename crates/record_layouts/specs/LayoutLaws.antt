@@ -4,24 +4,24 @@ use mathlib.Core.Logic.{by-cases}
 use mathlib.Core.Bool.{Bool, true, false}
 use mathlib.Core.List.{List, []}
 use mathlib.Core.Option.{Option, none, some}
-use Prim.Native.Nat.{ℕ, zero, suc, _+_, _-_, _≤_}
+use Prim.Native.Nat.{ℕ, _+_, _-_, _≤_}
 use native.Mathlib.Decide.{decLt}
 use native.Mathlib.Omega.{arith}
 use lib.IntN.{ℤ}
 use lib.ListN.{length, take, drop, length-drop}
 use lib.Seq.{length-take-le}
 use Rattle.formats.specs.Bytes.{impossible}
-use Rattle.formats.specs.Reader.{Reader, Answer, ok, short, bad, done, andThen, readAt, run, bind, times, free}
-use Rattle.formats.specs.Law.{whole}
-use Rattle.formats.specs.Compose.{at-start, at-bind, at-done, at-times, at-within, at-bind-ok, at-free, at-free-short}
+use Rattle.formats.specs.Reader.{Answer, ok, short, bad, done, andThen, readAt, run, bind, times, free}
+use Rattle.formats.specs.Compose.{at-start, at-bind, at-done, at-within, at-bind-ok, at-free, at-free-short}
 use Rattle.formats.specs.declared.Failure.the-variants.{Short}
 use Rattle.formats.specs.Number.{number, value, at-number, at-number-short}
-use Rattle.formats.specs.Fixed.{parts}
+use Rattle.formats.specs.Fixed.{times-length}
 use Rattle.formats.specs.Told.{told, failed, told-failed, at-bind-failed}
 use Rattle.formats.specs.declared.Failure.{Failure}
 use Rattle.formats.specs.declared.Outcome.the-variants.{Done, Failed}
 use Rattle.points.specs.Points.{point}
-use Rattle.records.specs.Record.{Record, included, stored, extension, fullRecord, present, extendedBytes}
+use Rattle.channels.specs.Descriptors.{included, stored}
+use Rattle.records.specs.Record.{Record, extension, fullRecord, present, extendedBytes}
 use Rattle.record_fronts.specs.Front.{Heading, front, body, in-two}
 use Rattle.record_fronts.specs.Fronted.{frontOf, frontIn, fronted}
 use Rattle.record_layouts.specs.Layout.{noLayout, behind, layoutBehind, layoutAt}
@@ -29,17 +29,6 @@ use Rattle.record_fronts.specs.declared.Front.{Front}
 use Rattle.record_layouts.specs.declared.Layout.{Layout}
 
 -- ---- What the parts of a record say of themselves
-
--- as many points as were counted
-pub times-length : {A : Type 0} (r : Reader A) (s : List ℕ) (n at : ℕ) {vs : List A} {m : ℕ} → readAt (times n r) s at ≡ ok vs m → length vs ≡ n
-unfolding times
-times-length {A} r s zero at {vs} e =
-    let z : readAt {A = List A} (done []) s at ≡ ok [] at = at-done [] s at in
-    let x : vs ≡ [] = cc in
-    ap length x
-times-length r s (suc n) at e =
-    let p = parts s (readAt r s at) (readAt (times n r) s) (sym (at-times s at n r) ∙ e) in
-    ap length (p .whole) ∙ ap suc (times-length r s n (p .place) (p .second))
 
 -- extended data that are present end where their bytes do, behind a length of two bytes; absent ones have no bytes
 pub record Ends (s : List ℕ) (announced : Bool) (at : ℕ) (extra : Option (List ℕ)) (end : ℕ) : Type 0 where
@@ -79,6 +68,8 @@ extension-ends s false at {extra} {end} h e =
 
 pub record Lying (s : List ℕ) (h : Front) (l : Layout) (r : Record) (end : ℕ) : Type 0 where
   pub outcome : l .outcome ≡ Done end
+  pub counted : h .count ≡ l .count
+  pub announced : h .announced ≡ l .announced
   pub includes : h .included ≡ included (r .description)
   pub stores : h .stored ≡ stored (r .description)
   pub count : length (r .points) ≡ l .count
@@ -109,6 +100,8 @@ module _ (s : List ℕ) where
           rw (at-done (made points extra) s end)
           (record {
             outcome = refl;
+            counted = refl;
+            announced = refl;
             includes = refl;
             stores = refl;
             count = times-length (point 2 (stored (f .description))) s (f .count) at e;
@@ -192,6 +185,11 @@ module _ (s : List ℕ) (start : ℕ) (inside : start ≤ length s) (l : Layout)
 module _ (s : List ℕ) (l : Layout) (e : l ≡ layoutAt s 0) where
   pub record-read : {end : ℕ} → l .outcome ≡ Done end → (r : Record) × (run fullRecord s ≡ ok r end) × Lying s (frontIn (readAt front s 0)) l r end
   record-read o = let x = record-lies s 0 (omega arith) l e o in (x .0, sym (at-start fullRecord s) ∙ x .1, x .2)
+
+  -- and of a record that was read it is the layout
+  pub read-lies : {r : Record} {end : ℕ} → run fullRecord s ≡ ok r end → Lying s (frontIn (readAt front s 0)) l r end
+  unfolding Agrees
+  read-lies {r} {end} q = of-layout s 0 (omega arith) l e (ok r end) (at-start fullRecord s ∙ q)
 
   pub failed-read : {f : Failure} → l .outcome ≡ Failed f → run fullRecord s ≡ failed f
   failed-read o = sym (at-start fullRecord s) ∙ failed-lies s 0 (omega arith) l e o

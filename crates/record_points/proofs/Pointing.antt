@@ -22,7 +22,8 @@ use Rattle.point_places.specs.Places as places
 use Rattle.point_places.specs.Places.{nowhere}
 use Rattle.point_places.specs.PlaceLaws.{read-nowhere}
 use Rattle.points.specs.Laws.{fixed-point, nth-point}
-use Rattle.records.specs.Record.{Record, included, stored, fullRecord}
+use Rattle.channels.specs.Descriptors.{included, stored}
+use Rattle.records.specs.Record.{Record, fullRecord}
 use Rattle.record_fronts.specs.Front.{front}
 use Rattle.record_fronts.specs.Fronted.{frontIn}
 use Rattle.record_layouts.specs.Layout.{layoutAt}

@@ -10,7 +10,8 @@ use Rattle.refusals.specs.Table.{refusalOf}
 use Rattle.refusals.specs.declared.Refusal.the-variants.{NoPoint}
 use Rattle.channels.specs.declared.Place.{Place}
 use Rattle.point_places.specs.Places.{placesOf, nowhere}
-use Rattle.records.specs.Record.{Record, included, stored}
+use Rattle.channels.specs.Descriptors.{included, stored}
+use Rattle.records.specs.Record.{Record}
 use Rattle.record_points.specs.declared.Pointed.{Pointed}
 use Rattle.record_points.specs.declared.Pointed.the-variants as pointed
 

@@ -1,7 +1,7 @@
 // The questions of some bytes as a record or as a file of records: each is asked of the library, and answered.
 use record_points::Pointed;
+use record_reading::Verdict;
 
-// Where there is no record the description says nothing of any channel, and no word of it is put.
 pub fn judge(text: &mut [u8; 65536], start: u16, bytes: &[u8], whole: bool) -> u16 {
     let judged = if whole {
         record_reading::judge_whole(bytes)
@@ -10,6 +10,9 @@ pub fn judge(text: &mut [u8; 65536], start: u16, bytes: &[u8], whole: bool) -> u
     };
     let verdict = judged.verdict;
     let used = answers::put(text, start, answers::of_verdict(verdict));
+    if let Verdict::Refused(_) = verdict {
+        return used;
+    }
     sayings::put_description(text, used, judged.description)
 }
 

@@ -16,6 +16,7 @@ use Rattle.refusals.specs.declared.Refusal.{Refusal}
 use Rattle.descriptions.specs.Description.{description}
 use Rattle.descriptions.specs.Read.{nothing, described}
 use Rattle.records.specs.Record.{Record, fullRecord}
+use Rattle.channels.specs.declared.Format.the-variants.{Full}
 use Rattle.identifications.specs.Identification.{identification}
 use Rattle.record_fronts.specs.Front.{front, body, in-two}
 use Rattle.record_fronts.specs.FrontLaws.{front-failed}
@@ -35,7 +36,7 @@ unfolding verdictFrom
 verdict-of-failed start Short = refl
 verdict-of-failed start (Bad k p) = refl
 
-nothing-failed : (f : Failure) → nothing ≡ descriptionIn (failed f)
+nothing-failed : (f : Failure) → nothing Full ≡ descriptionIn (failed f)
 unfolding descriptionIn
 nothing-failed Short = refl
 nothing-failed (Bad k p) = refl
@@ -65,18 +66,18 @@ module _ (s : List ℕ) (start : ℕ) (inside : start ≤ length s) (l : Layout)
 module _ (s : List ℕ) where
   -- a record's is what is read behind the identifier and the version
   record-by : {at n k : ℕ} {t : Bool} → told (readAt identification s 0) ≡ Done at → (x : Answer Record) → readAt fullRecord s 0 ≡ x
-      → verdict.Record n k t ≡ verdictFrom 0 x → described (readAt (description 2) s at) .description ≡ descriptionIn x
+      → verdict.Record n k t ≡ verdictFrom 0 x → described Full (readAt (description Full) s at) .description ≡ descriptionIn x
   unfolding verdictFrom descriptionIn described
-  record-by place (ok r n) q e = ap (λ y. described y .description) (record-described s 0 place q .1)
+  record-by place (ok r n) q e = ap (λ y. described Full y .description) (record-described s 0 place q .1)
   record-by place short q e = impossible (cc)
   record-by place (bad k p) q e = impossible (cc)
 
   pub judged-record : {at : ℕ} → told (readAt identification s 0) ≡ Done at → (v : Verdict) {n k : ℕ} {t : Bool} → v ≡ verdictFrom 0 (readAt fullRecord s 0) → v ≡ verdict.Record n k t
-      → _≡_ {A = Judged} (record { verdict = v; description = described (readAt (description 2) s at) .description }) (judged (run fullRecord s))
+      → _≡_ {A = Judged} (record { verdict = v; description = described Full (readAt (description Full) s at) .description }) (judged (run fullRecord s))
   judged-record place v e q =
       (λ i. record { verdict = e i; description = record-by place (readAt fullRecord s 0) refl (sym q ∙ e) i }) ∙ ap judged (at-start fullRecord s)
 
-  refused-by : {f : Refusal} (x : Answer Record) → verdict.Refused f ≡ verdictFrom 0 x → nothing ≡ descriptionIn x
+  refused-by : {f : Refusal} (x : Answer Record) → verdict.Refused f ≡ verdictFrom 0 x → nothing Full ≡ descriptionIn x
   unfolding verdictFrom descriptionIn
   refused-by (ok r n) e = impossible (cc)
   refused-by short e = refl

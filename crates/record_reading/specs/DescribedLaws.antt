@@ -9,6 +9,7 @@ use Rattle.formats.specs.Told.{told}
 use Rattle.formats.specs.declared.Outcome.the-variants.{Done}
 use Rattle.descriptions.specs.Description.{description}
 use Rattle.records.specs.Record.{Record, identifierBytes, versionBytes, fullRecord}
+use Rattle.channels.specs.declared.Format.the-variants.{Full}
 use Rattle.identifications.specs.Identification.{identification}
 
 -- ---- A first part and what follows it
@@ -39,16 +40,16 @@ unfolding identification told
 identification-end s start e f g = one-place (sym (ap told (at-bind-ok _ _ s start f ∙ g)) ∙ e)
 
 pub record-described : (s : List ℕ) (start : ℕ) {at n : ℕ} {r : Record} → told (readAt identification s start) ≡ Done at → readAt fullRecord s start ≡ ok r n
-    → (m : ℕ) × (readAt (description 2) s at ≡ ok (r .description) m)
+    → (m : ℕ) × (readAt (description Full) s at ≡ ok (r .description) m)
 unfolding fullRecord
 record-described s start {at} {n} {r} place e =
     let identifier = parted _ _ s start e in
     let version = parted _ _ s (identifier .place) (identifier .second) in
-    let channels = parted (description 2) _ s (version .place) (version .second) in
+    let channels = parted (description Full) _ s (version .place) (version .second) in
     let reserved = parted _ _ s (channels .place) (channels .second) in
     let opened = parted _ _ s (reserved .place) (reserved .second) in
     let counted = parted _ _ s (opened .place) (opened .second) in
     let pointed = parted _ _ s (counted .place) (counted .second) in
     let extended = parted _ _ s (pointed .place) (pointed .second) in
     let same = ap (λ v. v .description) (ok-value (sym (at-done _ s (extended .place)) ∙ extended .second)) in
-    (channels .place, ap (readAt (description 2) s) (sym (identification-end s start place (identifier .first) (version .first))) ∙ channels .first ∙ ap (λ d. ok d (channels .place)) same)
+    (channels .place, ap (readAt (description Full) s) (sym (identification-end s start place (identifier .first) (version .first))) ∙ channels .first ∙ ap (λ d. ok d (channels .place)) same)

@@ -8,6 +8,7 @@ use Rattle.formats.specs.declared.Failure.the-variants.{Short, Bad}
 use Rattle.refusals.specs.Table.{refusalOf}
 use Rattle.refusals.specs.declared.Refusal.the-variants.{LeftOver}
 use Rattle.channels.specs.declared.Description.{Description}
+use Rattle.channels.specs.declared.Format.the-variants.{Full}
 use Rattle.descriptions.specs.Read.{nothing}
 use Rattle.records.specs.Record.{Record, present}
 use Rattle.record_reading.specs.declared.Verdict.{Verdict}
@@ -25,8 +26,8 @@ verdictFrom start (bad k p) = verdict.Refused (refusalOf (Bad k p))
 -- a record's description, which says nothing of any channel where there is no record
 unfoldable pub descriptionIn : Answer Record → Description
 descriptionIn (ok r n) = r .description
-descriptionIn short = nothing
-descriptionIn (bad k p) = nothing
+descriptionIn short = nothing Full
+descriptionIn (bad k p) = nothing Full
 
 -- the front of some bytes
 abbrev pub judged : Answer Record → Judged
@@ -34,7 +35,7 @@ judged x = record { verdict = verdictFrom 0 x; description = descriptionIn x }
 
 -- a verdict, where there is no record
 abbrev pub unjudged : Verdict → Judged
-unjudged v = record { verdict = v; description = nothing }
+unjudged v = record { verdict = v; description = nothing Full }
 
 -- a whole slice of `size` bytes: the same, and 9 at the place of the first byte left over
 unfoldable pub judgedWhole : (size : ℕ) → Answer Record → Judged

@@ -67,7 +67,7 @@ pub fn verdict_at(bytes: &[u8], start: usize) -> Verdict
 fn unjudged(verdict: Verdict) -> Judged
     ensures { λ r. ⌜ r ≡ unjudged verdict ⌝ }
 {
-    let description = descriptions::nothing();
+    let description = descriptions::nothing(Format::Full);
     Judged {
         verdict: verdict,
         description: description,

@@ -12,6 +12,7 @@ use Rattle.formats.specs.Put.{puts}
 use Rattle.formats.specs.Laid.{Room, Laid}
 use Rattle.formats.specs.Lent.{writing}
 use Rattle.channels.specs.declared.Description.{Description}
+use Rattle.channels.specs.declared.Format.the-variants.{Full}
 use Rattle.refusals.specs.Stages.{orElse}
 use Rattle.refusals.specs.declared.Refusal.{Refusal}
 use Rattle.refusals.specs.declared.Judgement.the-variants.{Refused}
@@ -40,7 +41,7 @@ laid-five s at a b c d e =
     record { place = refl; bytes = rw (z, y, x) }
 
 -- a record whose description is refused is refused so, and nothing is put
-pub refused-written : (order : Order) (d : Description) (count : ℕ) (values : List ℤ) (wanted : Bool) (extended out : List ℕ) {refusal : Refusal} → described.judgementOf 2 d ≡ Refused refusal
+pub refused-written : (order : Order) (d : Description) (count : ℕ) (values : List ℤ) (wanted : Bool) (extended out : List ℕ) {refusal : Refusal} → described.judgementOf Full d ≡ Refused refusal
     → writing (answers.Refused refusal) out ≡ writeIn order d count values wanted extended out
 unfolding writeIn judgementIn orElse putWhere
 refused-written order d count values wanted extended out e = rw e

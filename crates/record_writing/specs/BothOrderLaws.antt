@@ -26,15 +26,17 @@ use Rattle.orders.specs.declared.Order.the-variants.{Point, Column}
 use Rattle.values.specs.Values.{judgementOf}
 use Rattle.values.specs.BothOrders.{NamesNoValue, SameJudgement}
 use Rattle.values.specs.BothOrderLaws.{same-behind, same-stage, same-test, same-judged}
-use Rattle.records.specs.Record.{stored, encode}
+use Rattle.channels.specs.Descriptors.{stored}
+use Rattle.channels.specs.declared.Format.the-variants.{Full}
+use Rattle.records.specs.Record.{encode}
 use Rattle.record_writing.specs.Write.{recordIn, countFits, numbersJudged, judgementIn, putWhere, writeIn}
 use Rattle.record_writing.specs.BothOrders.{SameWriting, WritesTheSame}
 use Rattle.record_writing.specs.declared.Written.{Written}
 use Rattle.record_writing.specs.declared.Written.the-variants as written
 
 -- a description names no sample value
-no-value : (d : Description) (refusal : Refusal) → described.judgementOf 2 d ≡ Refused refusal → NamesNoValue refusal
-no-value d refusal e at channel q = let x = names-given 2 d _ (sym (e ∙ ap Refused q)) in impossible (cc (x .is))
+no-value : (d : Description) (refusal : Refusal) → described.judgementOf Full d ≡ Refused refusal → NamesNoValue refusal
+no-value d refusal e at channel q = let x = names-given Full d _ (sym (e ∙ ap Refused q)) in impossible (cc (x .is))
 
 module _ (d : Description) (count : ℕ) (rows columns : List ℤ) (wanted : Bool) (extended : List ℕ)
     (many : length rows ≡ length columns) (same : Same count (size (stored d)) rows columns) where
@@ -48,7 +50,7 @@ module _ (d : Description) (count : ℕ) (rows columns : List ℤ) (wanted : Boo
   judged : SameJudgement count k (judgementIn Point d count rows wanted extended) (judgementIn Column d count columns wanted extended)
   unfolding judgementIn numbersJudged stages
   judged =
-      same-behind count k (described.judgementOf 2 d) (described.judgementOf 2 d) _ _ (same-stage count k (described.judgementOf 2 d) (no-value d))
+      same-behind count k (described.judgementOf Full d) (described.judgementOf Full d) _ _ (same-stage count k (described.judgementOf Full d) (no-value d))
       (same-behind count k (require (countFits count) (OutOfRange Count)) (require (countFits count) (OutOfRange Count)) _ _
       (same-test count k (countFits count) (OutOfRange Count) (λ at channel e. impossible (cc)))
       (same-behind count k (judgementOf 2 (stored d) Point count rows) (judgementOf 2 (stored d) Column count columns) _ _ (same-judged 2 (stored d) count rows columns many same)

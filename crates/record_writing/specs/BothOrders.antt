@@ -9,7 +9,7 @@ use Rattle.formats.specs.Lent.{Writing}
 use Rattle.channels.specs.declared.Description.{Description}
 use Rattle.orders.specs.Orders.{size, Same}
 use Rattle.values.specs.BothOrders.{SameRefusal}
-use Rattle.records.specs.Record.{stored}
+use Rattle.channels.specs.Descriptors.{stored}
 use Rattle.record_writing.specs.Write.{writeOf, writeColumnsOf}
 use Rattle.record_writing.specs.declared.Written.{Written}
 use Rattle.record_writing.specs.declared.Written.the-variants.{Record, Refused}

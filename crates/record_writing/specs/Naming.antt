@@ -12,12 +12,13 @@ use Rattle.refusals.specs.declared.Quantity.{Quantity}
 use Rattle.refusals.specs.declared.Quantity.the-variants.{Count}
 use Rattle.refusals.specs.declared.Refusal.the-variants.{OutOfRange}
 use Rattle.channels.specs.declared.Description.{Description}
-use Rattle.descriptions.specs.Description.{includesXY, tidy}
+use Rattle.channels.specs.declared.Format.the-variants.{Full}
+use Rattle.descriptions.specs.Description.{includesXY}
 use Rattle.description_judging.specs.Judging as described
 use Rattle.orders.specs.Orders.{size}
 use Rattle.values.specs.Values.{samples}
 use Rattle.orders.specs.declared.Order.{Order}
-use Rattle.records.specs.Record.{stored}
+use Rattle.channels.specs.Descriptors.{stored}
 use Rattle.record_writing.specs.Write.{countFits, writeIn}
 use Rattle.record_writing.specs.declared.Written.the-variants.{Refused}
 
@@ -31,9 +32,9 @@ NamesFirst =
     (order : Order) (d : Description) (count : ℕ) (values : List ℤ) (wanted : Bool) (extended out bytes : List ℕ) (name : Quantity)
     → writing (Refused (OutOfRange name)) bytes ≡ writeIn order d count values wanted extended out → FirstOutside (numbers order d count values) name
 
--- and where X and Y are included, the description is tidy and the amount of values is right, the first that is out of its range is named
+-- and where X and Y are included, the description is marked full and tidy and the amount of values is right, the first that is out of its range is named
 abbrev pub NamesEvery : Type 0
 NamesEvery =
     (order : Order) (d : Description) (count : ℕ) (values : List ℤ) (wanted : Bool) (extended out : List ℕ) (name : Quantity)
-    → T (includesXY d) → T (tidy d) → length values ≡ count * size (stored d) → FirstOutside (numbers order d count values) name
+    → T (includesXY d) → T (described.neatIn Full d) → length values ≡ count * size (stored d) → FirstOutside (numbers order d count values) name
     → writing (Refused (OutOfRange name)) out ≡ writeIn order d count values wanted extended out

@@ -19,14 +19,16 @@ use Rattle.refusals.specs.declared.Refusal.the-variants.{OutOfRange, Amount, Ex
 use Rattle.refusals.specs.declared.Judgement.{Judgement}
 use Rattle.refusals.specs.declared.Judgement.the-variants.{Passed, Refused}
 use Rattle.channels.specs.declared.Description.{Description}
-use Rattle.descriptions.specs.Description.{includesXY, tidy}
+use Rattle.descriptions.specs.Description.{includesXY}
 use Rattle.description_judging.specs.Judging as described
 use Rattle.description_judging.specs.NamingLaws.{by-numbers, tidy-first}
 use Rattle.values.specs.Values as values
 use Rattle.orders.specs.Orders.{size}
 use Rattle.values.specs.Values.{samples}
 use Rattle.orders.specs.declared.Order.{Order}
-use Rattle.records.specs.Record.{stored, encode}
+use Rattle.channels.specs.Descriptors.{stored}
+use Rattle.channels.specs.declared.Format.the-variants.{Full}
+use Rattle.records.specs.Record.{encode}
 use Rattle.record_writing.specs.Write.{recordIn, countFits, numbersJudged, judgementIn, putWhere, writeIn}
 use Rattle.record_writing.specs.declared.Written.the-variants as written
 use Rattle.record_writing.specs.Naming.{numbers, NamesFirst, NamesEvery}
@@ -65,17 +67,17 @@ module _ (order : Order) (d : Description) (count : ℕ) (lent : List ℤ) (want
   first : judgementIn order d count lent wanted extended ≡ Refused (OutOfRange name) → FirstOutside (numbers order d count lent) name
   unfolding judgementIn values.judgementOf numbersJudged numbers firstMisfit
   first e =
-      let x = tidy-first 2 d (numbersJudged order (stored d) count lent wanted extended) name e in
-      let e′ = rw (by-numbers 2 d (x .0) (x .1)) at e in
+      let x = tidy-first Full d (numbersJudged order (stored d) count lent wanted extended) name e in
+      let e′ = rw (by-numbers Full d (x .0) (x .1)) at e in
       named-first
       (numbers order d count lent)
       name
       (joined (described.numbers 2 d) _ ∙ in-order attributes (countFits count) (eqb (length lent) (count * size (stored d))) sampled (not (wanted && ltb 65535 (length extended))) name e′)
 
-  every : T (includesXY d) → T (tidy d) → length lent ≡ count * size (stored d) → FirstOutside (numbers order d count lent) name → judgementIn order d count lent wanted extended ≡ Refused (OutOfRange name)
+  every : T (includesXY d) → T (described.neatIn Full d) → length lent ≡ count * size (stored d) → FirstOutside (numbers order d count lent) name → judgementIn order d count lent wanted extended ≡ Refused (OutOfRange name)
   unfolding judgementIn values.judgementOf numbersJudged numbers firstMisfit
   every xy neat amount x =
-      rw (by-numbers 2 d xy neat, eq-eqb (length lent) (count * size (stored d)) amount)
+      rw (by-numbers Full d xy neat, eq-eqb (length lent) (count * size (stored d)) amount)
       (in-turn attributes (countFits count) sampled (not (wanted && ltb 65535 (length extended))) name (sym (joined (described.numbers 2 d) _) ∙ first-named (numbers order d count lent) name x))
 
 -- ---- The answer

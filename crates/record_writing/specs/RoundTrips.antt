@@ -25,7 +25,9 @@ use Rattle.orders.specs.Orders.{size, valuesOf}
 use Rattle.orders.specs.OrderLaws.{points-many, points-again}
 use Rattle.values.specs.ValueLaws.{valid-sizes, laid-fits}
 use Rattle.orders.specs.declared.Order.{Order}
-use Rattle.records.specs.Record.{Record, fullRecord, encode, stored, ValidExtended, Valid, present, extendedBytes}
+use Rattle.channels.specs.Descriptors.{stored}
+use Rattle.channels.specs.declared.Format.the-variants.{Full}
+use Rattle.records.specs.Record.{Record, fullRecord, encode, ValidExtended, Valid, present, extendedBytes}
 use Rattle.records.specs.Demands.{read-after-write, write-after-read}
 use Rattle.record_reading.specs.Verdict.{verdictFrom, descriptionIn, judged}
 use Rattle.record_writing.specs.Write.{recordIn, judgementIn, Passes, putWhere, writeIn}
@@ -121,7 +123,7 @@ module _ (order : Order) (s : List ℕ) (bytes : Bytes s) (r : Record) (n : ℕ)
   read-passes =
       passing order (r .description) (length (r .points)) values (present (r .extended)) extra
       (record {
-        described = valid-passed 2 (r .description) (valid .description) .0;
+        described = valid-passed Full (r .description) (valid .description) .0;
         numbered = record {
           counted = valid .count;
           fitting = laid-fits 2 (stored (r .description)) order (r .points) (valid .points);

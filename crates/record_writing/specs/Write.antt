@@ -20,7 +20,9 @@ use Rattle.orders.specs.Orders.{size, pointsOf}
 use Rattle.orders.specs.declared.Order.{Order}
 use Rattle.orders.specs.declared.Order.the-variants.{Point, Column}
 use Rattle.values.specs.Values as values
-use Rattle.records.specs.Record.{Record, stored, encode}
+use Rattle.channels.specs.Descriptors.{stored}
+use Rattle.channels.specs.declared.Format.the-variants.{Full}
+use Rattle.records.specs.Record.{Record, encode}
 use Rattle.record_writing.specs.declared.Written.{Written}
 use Rattle.record_writing.specs.declared.Written.the-variants as written
 
@@ -46,7 +48,7 @@ numbersJudged order stored count numbers wanted extended =
 
 -- the description's own stages come first
 unfoldable pub judgementIn : Order → Description → (count : ℕ) (numbers : List ℤ) (wanted : Bool) (extended : List ℕ) → Judgement
-judgementIn order d count numbers wanted extended = orElse (described.judgementOf 2 d) (numbersJudged order (stored d) count numbers wanted extended)
+judgementIn order d count numbers wanted extended = orElse (described.judgementOf Full d) (numbersJudged order (stored d) count numbers wanted extended)
 
 -- the bytes of a record that passes are put at the start where there is room for them; else the output stays as it was
 unfoldable pub putWhere : (bytes out : List ℕ) → Judgement → Writing Written
@@ -72,5 +74,5 @@ pub record NumbersPass (order : Order) (stored : List Bool) (count : ℕ) (numbe
   pub small : T wanted → length extended < 65536
 
 pub record Passes (order : Order) (d : Description) (count : ℕ) (numbers : List ℤ) (wanted : Bool) (extended : List ℕ) : Type 0 where
-  pub described : described.judgementOf 2 d ≡ judgement.Passed
+  pub described : described.judgementOf Full d ≡ judgement.Passed
   pub numbered : NumbersPass order (stored d) count numbers wanted extended

@@ -26,7 +26,9 @@ use Rattle.orders.specs.declared.Order.{Order}
 use Rattle.descriptions.specs.Description.{encodeDescription}
 use Rattle.description_judging.specs.Judging as described
 use Rattle.description_judging.specs.JudgingLaws.{passed-valid}
-use Rattle.records.specs.Record.{identifierBytes, versionBytes, stored, openingByte, encodeExtended, encode, ValidExtended, Valid}
+use Rattle.channels.specs.Descriptors.{stored}
+use Rattle.channels.specs.declared.Format.the-variants.{Full}
+use Rattle.records.specs.Record.{identifierBytes, versionBytes, openingByte, encodeExtended, encode, ValidExtended, Valid}
 use Rattle.record_writing.specs.Write.{recordIn, countStage, extendedStage, numbersJudged, judgementIn, writeIn, NumbersPass, Passes}
 use Rattle.record_writing.specs.Parts.{openingBytes, frontBytes, recordBytes, writeDescribed}
 
@@ -112,7 +114,7 @@ module _ (order : Order) (d : Description) (count : ℕ) (numbers : List ℤ) (w
       (regroup identifierBytes versionBytes (encodeDescription 2 d) (0x00 ∷ []) (cond wanted 0x80 0x00 ∷ []) (digits 3 count) row (encodeExtended extra))
 
   -- what becomes of it, once its description was put aside
-  pub described-written : (out : List ℕ) {bytes : List ℕ} {flags : List Bool} → described.judgementOf 2 d ≡ Passed → bytes ≡ encodeDescription 2 d → flags ≡ stored d
+  pub described-written : (out : List ℕ) {bytes : List ℕ} {flags : List Bool} → described.judgementOf Full d ≡ Passed → bytes ≡ encodeDescription 2 d → flags ≡ stored d
       → writeDescribed order bytes flags count numbers wanted extended out ≡ writeIn order d count numbers wanted extended out
   unfolding writeIn writeDescribed judgementIn orElse
   described-written out e b f = rw (b, f) (sym (rw (e, in-parts)))
@@ -121,7 +123,7 @@ module _ (order : Order) (d : Description) (count : ℕ) (numbers : List ℤ) (w
   pub passes-valid : Passes order d count numbers wanted extended → length (d .channels) ≡ 16 → Bytes extended → Valid (recordIn order d count numbers wanted extended)
   unfolding recordIn
   passes-valid p h g = record {
-    description = passed-valid 2 d (p .described) h;
+    description = passed-valid Full d (p .described) h;
     count = omega (arith, points-many order count (size (stored d)) numbers, p .numbered .counted);
     points = fits-valid 2 (stored d) order count numbers (p .numbered .fitting) .1;
     extended = extended-valid wanted extended (p .numbered .small) g;
@@ -131,7 +133,7 @@ module _ (order : Order) (d : Description) (count : ℕ) (numbers : List ℤ) (w
   pub passes : judgementIn order d count numbers wanted extended ≡ Passed → Passes order d count numbers wanted extended
   unfolding judgementIn
   passes e =
-      let x = or-else-passed (described.judgementOf 2 d) (numbersJudged order (stored d) count numbers wanted extended) e in
+      let x = or-else-passed (described.judgementOf Full d) (numbersJudged order (stored d) count numbers wanted extended) e in
       record { described = x .0; numbered = numbers-pass order (stored d) count numbers wanted extended (x .1) }
 
   pub passing : Passes order d count numbers wanted extended → judgementIn order d count numbers wanted extended ≡ Passed

@@ -9,31 +9,15 @@ ghost use mathlib.Core.Path.{_≡_};
 ghost use mathlib.Core.Bool.{cond};
 ghost use mathlib.Core.Option.{some, none};
 ghost use lib.Dec.{T};
-ghost use mathlib.Core.List.{map};
 ghost use Prim.Native.Nat.{_+_, _*_, _≤_, _<_};
 ghost use lib.ListN.{length};
 ghost use Rattle.formats.specs.Laid.{Room, Laid};
 ghost use Rattle.formats.specs.Lent.{writing};
-ghost use Rattle.channels.specs.Descriptors.{isStored};
 ghost use Rattle.descriptions.specs.Description.{description};
 ghost use Rattle.refusals.specs.declared.Judgement.the-variants.{Passed};
 ghost use Rattle.records.specs.Record.{encodeExtended};
 ghost use Rattle.record_writing.specs.Write.{numbersJudged, NumbersPass, writeIn, writeOf, writeColumnsOf};
 ghost use Rattle.record_writing.specs.Parts.{openingBytes, frontBytes, recordBytes, writeDescribed};
-
-// Which channels a sample point holds a number of.
-fn stored_channels(d: Description) -> [bool; 16]
-    ensures { λ r. ⌜ r ≡ map isStored (d .channels) ⌝ }
-{
-    let mut stored = [false; 16];
-    let mut i: usize = 0;
-    while i < 16 {
-        let c = d.channels[i];
-        stored[i] = channels::is_stored(c);
-        i += 1;
-    }
-    stored
-}
 
 // What became of a record that was to be written: its length, or the refusal of the first stage that it fails.
 pub enum Written {
@@ -193,7 +177,7 @@ fn write_in(
     match description_writing::put(&mut room, 0, description, Format::Full) {
         description_writing::Written::Done(end) => {
             let described = &room[0..end];
-            let stored = stored_channels(description);
+            let stored = channels::stored_channels(description);
             write_described(
                 described,
                 stored,

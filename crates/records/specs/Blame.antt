@@ -25,7 +25,9 @@ use Rattle.descriptions.specs.FaultLaws.{faults-description, breaks-behind, bre
 use Rattle.points.specs.Points.{channels, encodeSample, encodePoint, ValidPoint}
 use Rattle.points.specs.Laws.{writes-point}
 use Rattle.points.specs.FaultLaws.{InPoint, faults-point, stored-at, stored-behind}
-use Rattle.records.specs.Record.{identifierBytes, versionBytes, header, stored, opening, extension, fullRecord}
+use Rattle.channels.specs.Descriptors.{stored}
+use Rattle.channels.specs.declared.Format.the-variants.{Full}
+use Rattle.records.specs.Record.{identifierBytes, versionBytes, header, opening, extension, fullRecord}
 use Rattle.records.specs.Rules.{WrongSwitch, Breaks, identifier, version, xOrY, descriptorBit, reservedByte, openingBits, penState}
 
 -- ---- The record, line by line
@@ -54,7 +56,7 @@ abbrev FromLiteral : ℕ → List ℕ → (List ℕ → ℕ → ℕ → Type 0) 
 FromLiteral k l Behind = Then {A = Unit {0}} (λ u. l) (λ u. Unit {0}) (λ before b j. (j ≡ k) × Strays l before b) (λ u. Behind)
 
 abbrev FromDescription : List ℕ → ℕ → ℕ → Type 0
-FromDescription = Then (encodeDescription 2) (described.Valid 2) (rules.Breaks 2 []) (λ d. FromLiteral 6 (0x00 ∷ []) (FromOpening d))
+FromDescription = Then (encodeDescription 2) (described.Valid Full) (rules.Breaks 2 []) (λ d. FromLiteral 6 (0x00 ∷ []) (FromOpening d))
 
 abbrev Lines : List ℕ → ℕ → ℕ → Type 0
 Lines = FromLiteral 2 identifierBytes (FromLiteral 3 versionBytes FromDescription)
@@ -64,7 +66,7 @@ unfolding fullRecord
 by-lines =
     faults-bind (writes-literal _ _ tt) (faults-literal _ _ tt) (λ u h.
     faults-bind (writes-literal _ _ tt) (faults-literal _ _ tt) (λ u h.
-    faults-bind (writes-description 2) (faults-description 2) (λ d h.
+    faults-bind (writes-description Full) (faults-description Full) (λ d h.
     faults-bind (writes-literal _ _ tt) (faults-literal _ _ tt) (λ u h.
     faults-bind (writes-one opening) (faults-one opening) (λ b h.
     faults-bind (writes-number 3) (faults-never (never-number 3)) (λ n h.
@@ -100,7 +102,7 @@ bracket : (a b c d e : List ℕ) → a ++ b ++ c ++ d ++ e ≡ a ++ (b ++ (c ++ 
 bracket a b c d e = simp (append-assoc, append-nil)
 
 -- 8: S is stored, and what stands before it in its point are the numbers of the stored channels before it
-point-to : (d : Description) → described.Valid 2 d → (o n : ℕ) → opening .holds o ≡ true → n < 256 ^ 3 → (before rest : List ℕ) (b k : ℕ)
+point-to : (d : Description) → described.Valid Full d → (o n : ℕ) → opening .holds o ≡ true → n < 256 ^ 3 → (before rest : List ℕ) (b k : ℕ)
     → before ≡ header d ++ ((o ∷ []) ++ (digits 3 n ++ rest)) → InPoints d n rest b k → Breaks before b k
 unfolding channels ValidPoint encodePoint
 point-to d good o n opens counted before rest b k e x =
@@ -125,7 +127,7 @@ point-to d good o n opens counted before rest b k e x =
       other = p .broken .3;
     }))
 
-body-to : (d : Description) → described.Valid 2 d → (before rest : List ℕ) (b k : ℕ) → before ≡ header d ++ rest → FromOpening d rest b k → Breaks before b k
+body-to : (d : Description) → described.Valid Full d → (before rest : List ℕ) (b k : ℕ) → before ≡ header d ++ rest → FromOpening d rest b k → Breaks before b k
 body-to d good before rest b k e (here x) =
     rw (x .0) (openingBits (record { description = d; valid = good; written = rw (e, x .1) (append-nil (header d)); other = neither b (x .2) }))
 body-to d good before rest b k e (later o rest′ h e′ (here x)) = absurd x
@@ -159,7 +161,7 @@ to before b k (later u rest h e (later u′ rest′ h′ e′ (later d rest″ g
 not-opening : (b : ℕ) → (b ≢ 0x00) × (b ≢ 0x80) → opening .holds b ≡ false
 not-opening b h = rw (ne-eqb b 0x00 (h .0), ne-eqb b 0x80 (h .1))
 
-header-from : (d : Description) → described.Valid 2 d → (before rest : List ℕ) (b k : ℕ) → before ≡ header d ++ rest → FromOpening d rest b k → Lines before b k
+header-from : (d : Description) → described.Valid Full d → (before rest : List ℕ) (b k : ℕ) → before ≡ header d ++ rest → FromOpening d rest b k → Lines before b k
 header-from d good before rest b k e x =
     later tt _ tt (e ∙ ap (λ t. identifierBytes ++ (versionBytes ++ t)) (append-assoc (encodeDescription 2 d) (0x00 ∷ []) rest))
     (later tt _ tt refl

@@ -15,7 +15,9 @@ use Rattle.formats.specs.Writes.{Writes, writes-as, writes-map, writes-done, wr
 use Rattle.formats.specs.Binary.{bit}
 use Rattle.descriptions.specs.EncodedLaws.{writes-description}
 use Rattle.points.specs.Laws.{writes-point}
-use Rattle.records.specs.Record.{stored, opening, extension, fullRecord, openingByte, encodeExtended, encode, ValidExtended, Valid}
+use Rattle.channels.specs.Descriptors.{stored}
+use Rattle.channels.specs.declared.Format.the-variants.{Full}
+use Rattle.records.specs.Record.{opening, extension, fullRecord, openingByte, encodeExtended, encode, ValidExtended, Valid}
 
 -- ---- Extended data
 
@@ -74,7 +76,7 @@ writes-record =
     writes-as
     (writes-line (λ r. tt) (writes-literal _ _ tt) (λ u h.
     writes-line (λ r. tt) (writes-literal _ _ tt) (λ u h.
-    writes-line (λ r. r .description) (writes-description 2) (λ d h.
+    writes-line (λ r. r .description) (writes-description Full) (λ d h.
     writes-line (λ r. tt) (writes-literal _ _ tt) (λ u h.
     writes-line (λ r. openingByte (r .extended)) (writes-one opening) (λ b h.
     writes-line (λ r. length (r .points)) (writes-number 3) (λ n h.

@@ -7,9 +7,9 @@ use lib.ListN.{length, length-append, length-map}
 use Rattle.channels.specs.declared.Description.{Description}
 use Rattle.points.specs.Points.{width, encodePoint}
 use Rattle.points.specs.Laws.{full-width, points-length}
-use Rattle.channels.specs.Descriptors.{isStored}
+use Rattle.channels.specs.Descriptors.{isStored, stored}
 use Rattle.descriptions.specs.SizeLaws.{description-size}
-use Rattle.records.specs.Record.{Record, header, stored, Valid}
+use Rattle.records.specs.Record.{Record, header, Valid}
 
 -- four bytes of the identifier, four of the version, a description and the reserved byte
 pub header-size : (d : Description) → length (header d) ≤ 187

@@ -1,20 +1,19 @@
 -- A reader's failure keeps its number and its place; and the numbers of the table, row by row.
-use mathlib.Core.Path.{_≡_, refl, ap}
+use mathlib.Core.Path.{_≡_, refl}
 use mathlib.Core.List.{List, [], _∷_, map}
 use Prim.Native.Nat.{ℕ, zero, suc, _+_, _-_, _≤_, _<_}
 use native.Mathlib.Omega.{arith}
 use lib.ListN.{length, getD}
 use Rattle.formats.specs.declared.Failure.the-variants.{Bad}
 use Rattle.refusals.specs.Table.{numberOf, placeOf, atByte, named, refusalOf}
-use Rattle.refusals.specs.declared.Where.{Where}
 use Rattle.refusals.specs.declared.Where.the-variants.{At, Nowhere}
 use Rattle.refusals.specs.declared.Quantity.{Quantity}
 use Rattle.refusals.specs.declared.Refusal.{Refusal}
-use Rattle.refusals.specs.declared.Refusal.the-variants.{Short, Identifier, Version, XOrY, ReservedBit, ReservedByte, OpeningBits, Switch, LeftOver, NoPoint, Untidy, OutOfRange, Amount, ExtendedSize, Room, Tag, Length, Maximum, Uncalibrated}
+use Rattle.refusals.specs.declared.Refusal.the-variants.{Short, Identifier, Version, XOrY, ReservedBit, ReservedByte, OpeningBits, Switch, LeftOver, NoPoint, Untidy, OutOfRange, Amount, ExtendedSize, Room, Tag, Length, Maximum, Uncalibrated, NotCompact}
 
 -- ---- The table
 
--- all the rows: those that a reader gives at a place, X or Y when writing, and whatever was out of range
+-- all the rows: those that a reader gives at a place, X or Y when writing, and whatever was out of range or did not fit
 abbrev rows : (place : ℕ) (quantity : Quantity) → List Refusal
 rows place quantity =
     Short
@@ -36,9 +35,10 @@ rows place quantity =
     ∷ Length
     ∷ Maximum
     ∷ Uncalibrated
+    ∷ NotCompact quantity
     ∷ []
 
-pub numbers : (place : ℕ) (quantity : Quantity) → map numberOf (rows place quantity) ≡ 1 ∷ 2 ∷ 3 ∷ 4 ∷ 5 ∷ 6 ∷ 7 ∷ 8 ∷ 9 ∷ 10 ∷ 11 ∷ 12 ∷ 13 ∷ 14 ∷ 15 ∷ 16 ∷ 17 ∷ 18 ∷ 20 ∷ []
+pub numbers : (place : ℕ) (quantity : Quantity) → map numberOf (rows place quantity) ≡ 1 ∷ 2 ∷ 3 ∷ 4 ∷ 5 ∷ 6 ∷ 7 ∷ 8 ∷ 9 ∷ 10 ∷ 11 ∷ 12 ∷ 13 ∷ 14 ∷ 15 ∷ 16 ∷ 17 ∷ 18 ∷ 20 ∷ 21 ∷ []
 numbers place quantity = refl
 
 -- 4 when writing: the same number, and no place

@@ -4,6 +4,7 @@ use mathlib.Core.Bool.{Bool, true, false}
 use mathlib.Core.List.{List, [], _∷_}
 use Rattle.formats.specs.Bytes.{impossible}
 use Rattle.formats.specs.Writes.{All}
+use Rattle.refusals.specs.Table.{inCompact}
 use Rattle.refusals.specs.declared.Refusal.{Refusal}
 use Rattle.refusals.specs.declared.Judgement.{Judgement}
 use Rattle.refusals.specs.declared.Judgement.the-variants.{Passed, Refused}
@@ -22,12 +23,22 @@ unfoldable pub stages : List Judgement → Judgement
 stages [] = Passed
 stages (stage ∷ l) = orElse stage (stages l)
 
+-- a stage that says whether something fits the compact format: 21 in place of 12
+unfoldable pub compactly : Judgement → Judgement
+compactly Passed = Passed
+compactly (Refused refusal) = Refused (inCompact refusal)
+
 -- ---- Laws
 
 pub require-passed : (t : Bool) (refusal : Refusal) → require t refusal ≡ Passed → t ≡ true
 unfolding require
 require-passed true refusal e = refl
 require-passed false refusal e = impossible (cc)
+
+pub compactly-passed : (j : Judgement) → compactly j ≡ Passed → j ≡ Passed
+unfolding compactly
+compactly-passed Passed e = refl
+compactly-passed (Refused refusal) e = impossible (cc)
 
 pub or-else-passed : (a b : Judgement) → orElse a b ≡ Passed → (a ≡ Passed) × (b ≡ Passed)
 unfolding orElse

@@ -1,7 +1,7 @@
 // The numbered refusals of document 01 and of the requests as one type: each with its number, and with its place where the paper names one.
 use formats::Failure;
 ghost use mathlib.Core.Path.{_≡_};
-ghost use Rattle.refusals.specs.Table.{numberOf, placeOf, named, refusalOf};
+ghost use Rattle.refusals.specs.Table.{numberOf, placeOf, inCompact, named, refusalOf};
 
 // The place that a refusal names, the offset of its byte; or that it names none.
 pub enum Where {
@@ -18,7 +18,7 @@ pub enum AttributeName {
     Deviation,
 }
 
-// Which number was out of its range (request L2).
+// Which number was out of its range (request L2), or did not fit the compact format (request L4).
 pub enum Quantity {
     Attribute { channel: usize, name: AttributeName }, // of a channel's descriptor
     Count, // of points
@@ -27,9 +27,10 @@ pub enum Quantity {
     Raw, // what is to be read in thousandths
     Exponent, // E of a scaling value
     Fraction, // F of one
+    ExtendedData, // which a compact body has no place for, even where they have no byte
 }
 
-// The table, in the order of its numbers: document 01's, 1 to 18, and request L3's, 20.
+// The table, in the order of its numbers: document 01's, 1 to 18, request L3's, 20, and request L4's, 21.
 pub enum Refusal {
     Short,
     Identifier { place: usize },
@@ -50,6 +51,7 @@ pub enum Refusal {
     Length,
     Maximum,
     Uncalibrated, // no scaling value, so that the channel's calibration is unknown (7.3.4.3)
+    NotCompact { quantity: Quantity }, // it does not fit the compact format (8.4)
 }
 
 // What one stage of judging says.
@@ -82,6 +84,7 @@ pub fn number(refusal: Refusal) -> u8
         Refusal::Length => 17,
         Refusal::Maximum => 18,
         Refusal::Uncalibrated => 20,
+        Refusal::NotCompact { quantity: _ } => 21,
     }
 }
 
@@ -109,7 +112,18 @@ pub fn place(refusal: Refusal) -> Where
         Refusal::Length => Where::Nowhere,
         Refusal::Maximum => Where::Nowhere,
         Refusal::Uncalibrated => Where::Nowhere,
+        Refusal::NotCompact { quantity: _ } => Where::Nowhere,
     }
+}
+
+// A refusal as it is told of what has to fit the compact format: 21 in place of 12 (request L4).
+pub fn in_compact(refusal: Refusal) -> Refusal
+    ensures { λ r. ⌜ r ≡ inCompact refusal ⌝ }
+{
+    if let Refusal::OutOfRange { quantity } = refusal {
+        return Refusal::NotCompact { quantity: quantity };
+    }
+    refusal
 }
 
 // The refusal of a byte at a place, by its number. A reader gives 2 to 8; a number below is taken as 2, one above as 9.

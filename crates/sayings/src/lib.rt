@@ -1,4 +1,4 @@
-// Descriptions as words: a word for each channel of which something is said, read from a line and put into a text.
+// Descriptions as words: a word for the mark and one for each channel of which something is said, read from a line and put into a text.
 ghost use mathlib.Core.Path.{_≡_};
 ghost use mathlib.Core.Bool.{false};
 ghost use mathlib.Core.Logic.{_⊎_};
@@ -8,6 +8,7 @@ ghost use Rattle.sayings.specs.Silent.{Silent};
 use channels::Attribute;
 use channels::Description;
 use channels::Descriptor;
+use channels::Format;
 
 // Why words say no description, beside the reasons of `words`.
 pub const NOT_A_CHANNEL: usize = 4;
@@ -123,7 +124,7 @@ fn readable(word: &[u8]) -> bool {
 
 // A channel of which only is said whether it is included.
 fn named(included: bool) -> Descriptor {
-    let nothing = descriptions::nothing();
+    let nothing = descriptions::nothing(Format::Full);
     let mut d = nothing.channels[0];
     d.included = included;
     d
@@ -149,7 +150,33 @@ fn channel_in(word: &[u8]) -> usize {
     channel_of(words::part(name, 0, words::seek(name, 0, b'.')))
 }
 
-// Why the words of a line, from a place on, say no description.
+// A description's mark, and the place behind its word.
+pub struct Marked {
+    pub mark: Format,
+    pub behind: usize,
+}
+
+// The mark that a line says at a place, or, where it says none, the one that is meant there.
+pub fn mark_at(line: &[u8], at: usize, meant: Format) -> Marked {
+    let span = words::next(line, b' ', at);
+    let word = words::part(line, span.from, span.to);
+    match words::which(b"full compact", b' ', word) {
+        0 => Marked {
+            mark: Format::Full,
+            behind: span.to,
+        },
+        1 => Marked {
+            mark: Format::Compact,
+            behind: span.to,
+        },
+        _ => Marked {
+            mark: meant,
+            behind: at,
+        },
+    }
+}
+
+// Why the words of a line, from a place on, say no channels.
 pub fn reason_at(line: &[u8], at: usize) -> usize
     ensures { λ r. ⌜ (r ≡ 0) ⊎ (r ≡ 4) ⌝ }
 {
@@ -164,11 +191,11 @@ pub fn reason_at(line: &[u8], at: usize) -> usize
     words::NO_REASON
 }
 
-// The description that the words of a line, from a place on, say, where there is no reason why not.
-pub fn description_at(line: &[u8], at: usize) -> Description
-    ensures { λ r. ⌜ (Blank (now (line .entry)) at → r ≡ nothing) ⌝ }
+// The description with a mark, and with the channels that the words of a line, from a place on, say, where there is no reason why not.
+pub fn description_at(line: &[u8], at: usize, mark: Format) -> Description
+    ensures { λ r. ⌜ (Blank (now (line .entry)) at → r ≡ nothing mark) ⌝ }
 {
-    let mut description = descriptions::nothing();
+    let mut description = descriptions::nothing(mark);
     let mut span = words::next(line, b' ', at);
     while span.from < span.to {
         let word = words::part(line, span.from, span.to);
@@ -220,7 +247,7 @@ fn put_descriptor(text: &mut [u8; 65536], start: u16, d: Descriptor) -> u16 {
 }
 
 // A word for each channel that is included.
-pub fn put_description(text: &mut [u8; 65536], start: u16, description: Description) -> u16
+fn put_channels(text: &mut [u8; 65536], start: u16, description: Description) -> u16
     ensures { λ r. ⌜ (Silent description → r ≡ start) ⌝ }
 {
     let mut used = start;
@@ -231,4 +258,18 @@ pub fn put_description(text: &mut [u8; 65536], start: u16, description: Descript
         channel += 1;
     }
     used
+}
+
+// Its mark, and a word for each channel that is included.
+pub fn put_description(text: &mut [u8; 65536], start: u16, description: Description) -> u16 {
+    let mark = description.mark;
+    let used = put_mark(text, start, mark);
+    put_channels(text, used, description)
+}
+
+fn put_mark(text: &mut [u8; 65536], used: u16, mark: Format) -> u16 {
+    match mark {
+        Format::Full => texts::put_bytes(text, used, b" full"),
+        Format::Compact => texts::put_bytes(text, used, b" compact"),
+    }
 }

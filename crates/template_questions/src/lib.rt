@@ -11,7 +11,7 @@ pub fn read(text: &mut [u8; 65536], start: u16, bytes: &[u8]) -> u16 {
     }
 }
 
-// Where a template has no description, `!` says so; the description says nothing then, and no word of it is put.
+// Where a template has no description, `!` says so, and no word of one is put.
 fn put_template(text: &mut [u8; 65536], start: u16, template: templates::Template) -> u16 {
     let described = template.described;
     let description = template.description;

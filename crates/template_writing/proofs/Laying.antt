@@ -11,6 +11,7 @@ use Rattle.formats.specs.Put.{puts, puts-is}
 use Rattle.formats.specs.Number.{digits, length-digits}
 use Rattle.formats.specs.Lent.{writing}
 use Rattle.channels.specs.declared.Description.{Description}
+use Rattle.channels.specs.declared.Format.the-variants.{Compact}
 use Rattle.descriptions.specs.Description.{encodeDescription}
 use Rattle.refusals.specs.Stages.{orElse, stages}
 use Rattle.refusals.specs.declared.Refusal.{Refusal}
@@ -102,10 +103,10 @@ module _ (described : Bool) (d : Description) (limited : Bool) (n : ℕ) (out : 
   unwanted-written e b = rw (e, last-stage (maximumStage limited n))
 
   module _ (e : described ≡ true) where
-    pub passed-written : (b : List ℕ) → b ≡ encodeDescription 1 d → judging.judgementOf 1 d ≡ judgement.Passed → writeFields true b limited n out ≡ writeOf described d limited n out
+    pub passed-written : (b : List ℕ) → b ≡ encodeDescription 1 d → judging.judgementOf Compact d ≡ judgement.Passed → writeFields true b limited n out ≡ writeOf described d limited n out
     unfolding writeFields templateBytes describedBytes writeOf judgementOf descriptionStage encode encodeDescribed
     passed-written b q f = rw (e, q, f, last-stage (maximumStage limited n))
 
-    pub refused-written : {refusal : Refusal} → judging.judgementOf 1 d ≡ judgement.Refused refusal → writing (answers.Refused refusal) out ≡ writeOf described d limited n out
+    pub refused-written : {refusal : Refusal} → judging.judgementOf Compact d ≡ judgement.Refused refusal → writing (answers.Refused refusal) out ≡ writeOf described d limited n out
     unfolding writeOf judgementOf descriptionStage stages orElse putWhere
     refused-written f = rw (e, f)

@@ -10,7 +10,8 @@ use Rattle.refusals.specs.declared.Quantity.{Quantity}
 use Rattle.refusals.specs.declared.Quantity.the-variants.{Maximum}
 use Rattle.refusals.specs.declared.Refusal.the-variants.{OutOfRange}
 use Rattle.channels.specs.declared.Description.{Description}
-use Rattle.descriptions.specs.Description.{includesXY, tidy}
+use Rattle.channels.specs.declared.Format.the-variants.{Compact}
+use Rattle.descriptions.specs.Description.{includesXY}
 use Rattle.description_judging.specs.Judging as judging
 use Rattle.template_writing.specs.Writing.{exceeds, writeOf}
 use Rattle.template_writing.specs.declared.Written.the-variants.{Refused}
@@ -25,9 +26,9 @@ NamesFirst =
     (described : Bool) (d : Description) (limited : Bool) (maximum : ℕ) (out bytes : List ℕ) (name : Quantity)
     → writing (Refused (OutOfRange name)) bytes ≡ writeOf described d limited maximum out → FirstOutside (numbers described d limited maximum) name
 
--- and where a description that is wanted includes X and Y and is tidy, the first that is out of its range is named
+-- and where a description that is wanted includes X and Y, is marked compact and is tidy, the first that is out of its range is named
 abbrev pub NamesEvery : Type 0
 NamesEvery =
     (described : Bool) (d : Description) (limited : Bool) (maximum : ℕ) (out : List ℕ) (name : Quantity)
-    → (T described → T (includesXY d) × T (tidy d)) → FirstOutside (numbers described d limited maximum) name
+    → (T described → T (includesXY d) × T (judging.neatIn Compact d)) → FirstOutside (numbers described d limited maximum) name
     → writing (Refused (OutOfRange name)) out ≡ writeOf described d limited maximum out

@@ -15,7 +15,8 @@ use Rattle.refusals.specs.declared.Refusal.the-variants.{OutOfRange, Room}
 use Rattle.refusals.specs.declared.Judgement.{Judgement}
 use Rattle.refusals.specs.declared.Judgement.the-variants as judgement
 use Rattle.channels.specs.declared.Description.{Description}
-use Rattle.descriptions.specs.Description.{includesXY, tidy}
+use Rattle.channels.specs.declared.Format.the-variants.{Compact}
+use Rattle.descriptions.specs.Description.{includesXY}
 use Rattle.description_judging.specs.Judging as judging
 use Rattle.description_judging.specs.NamingLaws.{by-numbers, tidy-first}
 use Rattle.templates.specs.Template.{encode}
@@ -31,13 +32,13 @@ module _ (d : Description) (limited : Bool) (maximum : ℕ) (name : Quantity) wh
   first : (described : Bool) → judgementOf described d limited maximum ≡ judgement.Refused (OutOfRange name) → FirstOutside (numbers described d limited maximum) name
   unfolding judgementOf descriptionStage numbers firstMisfit stages orElse
   first true e =
-      let x = tidy-first 1 d (stages (maximumStage limited maximum ∷ [])) name e in
-      named-first (numbers true d limited maximum) name (joined (judging.numbers 1 d) _ ∙ (rw (by-numbers 1 d (x .0) (x .1)) at e))
+      let x = tidy-first Compact d (stages (maximumStage limited maximum ∷ [])) name e in
+      named-first (numbers true d limited maximum) name (joined (judging.numbers 1 d) _ ∙ (rw (by-numbers Compact d (x .0) (x .1)) at e))
   first false e = named-first (numbers false d limited maximum) name e
 
-  every : (described : Bool) → (T described → T (includesXY d) × T (tidy d)) → FirstOutside (numbers described d limited maximum) name → judgementOf described d limited maximum ≡ judgement.Refused (OutOfRange name)
+  every : (described : Bool) → (T described → T (includesXY d) × T (judging.neatIn Compact d)) → FirstOutside (numbers described d limited maximum) name → judgementOf described d limited maximum ≡ judgement.Refused (OutOfRange name)
   unfolding judgementOf descriptionStage numbers firstMisfit stages orElse
-  every true h x = rw (by-numbers 1 d (h tt .0) (h tt .1)) (sym (joined (judging.numbers 1 d) _) ∙ first-named (numbers true d limited maximum) name x)
+  every true h x = rw (by-numbers Compact d (h tt .0) (h tt .1)) (sym (joined (judging.numbers 1 d) _) ∙ first-named (numbers true d limited maximum) name x)
   every false h x = first-named (numbers false d limited maximum) name x
 
 -- ---- The answer

@@ -11,6 +11,7 @@ use Rattle.refusals.specs.declared.Refusal.the-variants.{OutOfRange, Room}
 use Rattle.refusals.specs.declared.Judgement.{Judgement}
 use Rattle.refusals.specs.declared.Judgement.the-variants as judgement
 use Rattle.channels.specs.declared.Description.{Description}
+use Rattle.channels.specs.declared.Format.the-variants.{Compact}
 use Rattle.description_judging.specs.Judging as judging
 use Rattle.templates.specs.Template.{field, encodeLimited, encode}
 use Rattle.templates.specs.Reading.{saying}
@@ -19,7 +20,7 @@ use Rattle.template_writing.specs.declared.Written.the-variants.{Done, R
 
 -- the description's own stages, where 81 is wanted
 unfoldable pub descriptionStage : (described : Bool) → Description → Judgement
-descriptionStage true d = judging.judgementOf 1 d
+descriptionStage true d = judging.judgementOf Compact d
 descriptionStage false d = judgement.Passed
 
 -- a maximum that three bytes don't hold, where 82 is wanted

@@ -1,16 +1,17 @@
 -- What was written is read back, what was read is written back, and what isn't wanted isn't looked at.
 use mathlib.Core.Path.{_≡_, refl, sym, ap, _∙_}
-use mathlib.Core.Bool.{Bool, true, false, not, cond}
+use mathlib.Core.Bool.{Bool, true, false, cond}
 use mathlib.Core.List.{List, [], _∷_, _++_}
 use Prim.Native.Nat.{ℕ, _≤_}
 use native.Mathlib.Omega.{arith}
 use lib.Dec.{leb}
 use lib.ListN.{length, take, drop}
 use lib.Seq.{take-append-seam}
-use borrow.Author.Tests.{not-true, le-leb, leb-true, le-ltb, ltb-false}
+use borrow.Author.Tests.{not-true, le-leb, le-ltb, ltb-false}
 use Rattle.formats.specs.Bytes.{Bytes, impossible}
 use Rattle.formats.specs.Lent.{writing}
 use Rattle.channels.specs.declared.Description.{Description}
+use Rattle.channels.specs.declared.Format.the-variants.{Compact}
 use Rattle.descriptions.specs.Read.{nothing}
 use Rattle.refusals.specs.Stages.{require, orElse, stages, require-passed, stages-passed}
 use Rattle.refusals.specs.declared.Refusal.{Refusal}
@@ -27,7 +28,7 @@ use Rattle.template_writing.specs.Writing.{descriptionStage, maximumStag
 
 -- the template that is written: zeros stand for what isn't wanted
 abbrev pub wanted : (described : Bool) (d : Description) (limited : Bool) (maximum : ℕ) → Template
-wanted described d limited maximum = saying described (cond described d nothing) limited (cond limited maximum 0)
+wanted described d limited maximum = saying described (cond described d (nothing Compact)) limited (cond limited maximum 0)
 
 encode-wanted : (described : Bool) (d : Description) (limited : Bool) (n : ℕ) → encode (saying described d limited n) ≡ encode (wanted described d limited n)
 unfolding encode encodeDescribed encodeLimited
@@ -38,9 +39,9 @@ encode-wanted false d false n = refl
 
 -- ---- What passes
 
-describes : (described : Bool) (d : Description) → descriptionStage described d ≡ judgement.Passed → length (d .channels) ≡ 16 → Describes described (cond described d nothing)
+describes : (described : Bool) (d : Description) → descriptionStage described d ≡ judgement.Passed → length (d .channels) ≡ 16 → Describes described (cond described d (nothing Compact))
 unfolding descriptionStage
-describes true d e h = passed-valid 1 d e h
+describes true d e h = passed-valid Compact d e h
 describes false d e h = refl
 
 limits : (limited : Bool) (n : ℕ) → exceeds limited n ≡ false → Limits limited (cond limited n 0)
@@ -50,7 +51,7 @@ limits false n e = refl
 
 describes-passed : (described : Bool) (d : Description) → Describes described d → descriptionStage described d ≡ judgement.Passed
 unfolding descriptionStage
-describes-passed true d h = valid-passed 1 d h .0
+describes-passed true d h = valid-passed Compact d h .0
 describes-passed false d h = refl
 
 limits-passed : (limited : Bool) (n : ℕ) → Limits limited n → exceeds limited n ≡ false

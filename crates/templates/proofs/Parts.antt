@@ -17,7 +17,6 @@ use Rattle.formats.specs.Number.{value}
 use Rattle.formats.specs.Told.{failed}
 use Rattle.formats.specs.declared.Failure.{Failure}
 use Rattle.formats.specs.declared.Outcome.the-variants.{Done, Failed}
-use Rattle.channels.specs.Channel.{widthOf}
 use Rattle.channels.specs.declared.Format.the-variants.{Compact}
 use Rattle.channels.specs.declared.Description.{Description}
 use Rattle.descriptions.specs.Description.{description}
@@ -112,7 +111,7 @@ module _ (described : Bool) (d : Description) where
 
 -- an answer that says of channels just what it is told
 abbrev Free : (Bool → Description → Judged) → Type 0
-Free f = (described : Bool) (d : Description) → filled described d (limitOf (f false nothing)) ≡ f described d
+Free f = (described : Bool) (d : Description) → filled described d (limitOf (f false (nothing Compact))) ≡ f described d
 
 free-require : (t : Bool) (refusal : Refusal) (f : Bool → Description → Judged) → Free f → Free (λ b d. require t refusal (f b d))
 free-require true refusal f h = h
@@ -142,16 +141,15 @@ free-from (tag ∷ b) = free-require (eqb tag 0x82) Tag _ (free-content b)
 -- ---- The description
 
 -- what the code that reads one was told, taken back to the answer
-module _ (content : List ℕ) (r : Described) (e : r ≡ described (readAt (description (widthOf Compact)) content 0)) where
-  whole : r ≡ described (run (description 1) content)
-  unfolding widthOf
-  whole = e ∙ ap described (at-start (description 1) content)
+module _ (content : List ℕ) (r : Described) (e : r ≡ described Compact (readAt (description Compact) content 0)) where
+  whole : r ≡ described Compact (run (description Compact) content)
+  whole = e ∙ ap (described Compact) (at-start (description Compact) content)
 
-  pub description-done : {n : ℕ} → r .outcome ≡ Done n → run (description 1) content ≡ ok (r .description) n
-  description-done {n} q = described-done (run (description 1) content) (sym (ap (λ y. y .outcome) whole) ∙ q) ∙ ap (λ y. ok (y .description) n) (sym whole)
+  pub description-done : {n : ℕ} → r .outcome ≡ Done n → run (description Compact) content ≡ ok (r .description) n
+  description-done {n} q = described-done Compact (run (description Compact) content) (sym (ap (λ y. y .outcome) whole) ∙ q) ∙ ap (λ y. ok (y .description) n) (sym whole)
 
-  pub description-failed : {f : Failure} → r .outcome ≡ Failed f → run (description 1) content ≡ failed f
-  description-failed q = described-failed (run (description 1) content) (sym (ap (λ y. y .outcome) whole) ∙ q)
+  pub description-failed : {f : Failure} → r .outcome ≡ Failed f → run (description Compact) content ≡ failed f
+  description-failed q = described-failed Compact (run (description Compact) content) (sym (ap (λ y. y .outcome) whole) ∙ q)
 
 -- from place 4 of a slice on
 module _ (s : List ℕ) (end : ℕ) (low : 4 ≤ end) (high : end ≤ length s) where
@@ -161,30 +159,30 @@ module _ (s : List ℕ) (end : ℕ) (low : 4 ≤ end) (high : end ≤ length s) 
   size : length part ≡ end - 4
   size = length-take-le (end - 4) (drop 4 s) (simp length-drop (omega arith))
 
-  pub described-whole : {d : Description} {n : ℕ} → run (description 1) part ≡ ok d n → n ≡ end - 4 → describedBy part (drop end s) ≡ limitedFrom true d (drop end s)
+  pub described-whole : {d : Description} {n : ℕ} → run (description Compact) part ≡ ok d n → n ≡ end - 4 → describedBy part (drop end s) ≡ limitedFrom true d (drop end s)
   unfolding describedBy filling
   described-whole {d} {n} e q = rw (e, size, eq-eqb n (end - 4) q)
 
-  pub described-part : {d : Description} {n : ℕ} → run (description 1) part ≡ ok d n → (n ≡ end - 4 → ⊥) → describedBy part (drop end s) ≡ refused Length
+  pub described-part : {d : Description} {n : ℕ} → run (description Compact) part ≡ ok d n → (n ≡ end - 4 → ⊥) → describedBy part (drop end s) ≡ refused Length
   unfolding describedBy filling
   described-part {d} {n} e q = rw (e, size, ne-eqb n (end - 4) q)
 
-  pub described-short : run (description 1) part ≡ short → describedBy part (drop end s) ≡ refused Length
+  pub described-short : run (description Compact) part ≡ short → describedBy part (drop end s) ≡ refused Length
   unfolding describedBy filling
   described-short e = rw e
 
-  pub described-bad : {k p : ℕ} → run (description 1) part ≡ bad k p → (describedBy part (drop end s) ≡ refused (faultOf k (4 + p))) × (4 + p < length s)
+  pub described-bad : {k p : ℕ} → run (description Compact) part ≡ bad k p → (describedBy part (drop end s) ≡ refused (faultOf k (4 + p))) × (4 + p < length s)
   unfolding describedBy filling
-  described-bad e = (rw e, omega (arith, refused-byte (description 1) part e .within, size))
+  described-bad e = (rw e, omega (arith, refused-byte (description Compact) part e .within, size))
 
 -- ---- The content, and the whole
 
 module _ (s : List ℕ) where
-  pub content-none : length s ≤ 2 → contentOf (drop 2 s) ≡ limitedFrom false nothing (drop 2 s)
+  pub content-none : length s ≤ 2 → contentOf (drop 2 s) ≡ limitedFrom false (nothing Compact) (drop 2 s)
   unfolding contentOf
   content-none h = rw (drop-of-length-le s {i = 2} h)
 
-  pub content-other : 2 < length s → (getD s 2 0 ≡ 0x81 → ⊥) → contentOf (drop 2 s) ≡ limitedFrom false nothing (drop 2 s)
+  pub content-other : 2 < length s → (getD s 2 0 ≡ 0x81 → ⊥) → contentOf (drop 2 s) ≡ limitedFrom false (nothing Compact) (drop 2 s)
   unfolding contentOf
   content-other h e = rw (drop-cons s 2 0 h, ne-eqb (getD s 2 0) 0x81 e)
 

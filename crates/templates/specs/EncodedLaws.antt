@@ -14,6 +14,7 @@ use Rattle.formats.specs.Bytes.{Bytes, bytes-take, bytes-drop, impossible}
 use Rattle.formats.specs.Reader.{Answer, ok, short, bad, run}
 use Rattle.formats.specs.Number.{number, digits, value, length-digits, number-ok, writes-number}
 use Rattle.channels.specs.declared.Description.{Description}
+use Rattle.channels.specs.declared.Format.the-variants.{Compact}
 use Rattle.descriptions.specs.Description.{description, encodeDescription}
 use Rattle.descriptions.specs.EncodedLaws.{writes-description}
 use Rattle.descriptions.specs.SizeLaws.{description-size}
@@ -128,9 +129,9 @@ read-described : (described : Bool) (d : Description) (limited : Bool) (n : ℕ)
 unfolding contentOf encodeDescribed encodeLimited describedBy filling
 read-described true d limited n h q =
     content-there (encodeDescription 1 d) (encodeLimited limited n) describedBy
-    ∙ rw (writes-description 1 .reads d h, eq-eqb (length (encodeDescription 1 d)) (length (encodeDescription 1 d)) refl) (read-limited true d limited n q)
-read-described false d true n h q = rw h (read-limited false nothing true n q)
-read-described false d false n h q = rw h (read-limited false nothing false n q)
+    ∙ rw (writes-description Compact .reads d h, eq-eqb (length (encodeDescription 1 d)) (length (encodeDescription 1 d)) refl) (read-limited true d limited n q)
+read-described false d true n h q = rw h (read-limited false (nothing Compact) true n q)
+read-described false d false n h q = rw h (read-limited false (nothing Compact) false n q)
 
 -- the content is below 128 bytes
 limited-size : (limited : Bool) (n : ℕ) → Limits limited n → length (encodeLimited limited n) ≤ 5
@@ -218,20 +219,20 @@ record Content (b : List ℕ) (t : Template) : Type 0 where
   valid : ValidTemplate t
   written : b ≡ encodeDescribed (t .described) (t .description) ++ encodeLimited (t .limited) (t .maximum)
 
-undescribed : (b : List ℕ) {t : Template} → Rest false nothing b t → Content b t
+undescribed : (b : List ℕ) {t : Template} → Rest false (nothing Compact) b t → Content b t
 unfolding encodeDescribed
 undescribed b {t} r = rw (← r .channels) (record { valid = record { description = refl; maximum = r .maximum }; written = r .written })
 
 content-only : (b : List ℕ) {t : Template} → Bytes b → contentOf b ≡ accepted t → Content b t
 unfolding contentOf describedBy filling encodeDescribed
-content-only [] g e = undescribed [] (limited-only false nothing [] g e)
+content-only [] g e = undescribed [] (limited-only false (nothing Compact) [] g e)
 content-only (x ∷ b) {t} g e = go (eqb x 0x81) refl e
   where
-    filled : (content behind : List ℕ) (a : Answer Description) → run (description 1) content ≡ a → Bytes content → Bytes behind → filling (length content) a behind ≡ accepted t
+    filled : (content behind : List ℕ) (a : Answer Description) → run (description Compact) content ≡ a → Bytes content → Bytes behind → filling (length content) a behind ≡ accepted t
         → Content (0x81 ∷ length content ∷ content ++ behind) t
     filled content behind (ok d n) q f h e =
         let r = require-holds (eqb n (length content)) Length e in
-        let o = writes-description 1 .only content f (q ∙ ap (ok d) (eqb-true n (length content) (r .0))) in
+        let o = writes-description Compact .only content f (q ∙ ap (ok d) (eqb-true n (length content) (r .0))) in
         let l = limited-only true d behind h (r .1) in
         rw (← l .channels) (record {
           valid = record { description = o .0; maximum = l .maximum };
@@ -240,9 +241,9 @@ content-only (x ∷ b) {t} g e = go (eqb x 0x81) refl e
     filled content behind short q f h e = refused-not e
     filled content behind (bad k p) q f h e = refused-not e
 
-    go : (s : Bool) → eqb x 0x81 ≡ s → cond s (withContent b describedBy) (limitedFrom false nothing (x ∷ b)) ≡ accepted t → Content (x ∷ b) t
-    go true q e = let l = held b describedBy e in rw (eqb-true x 0x81 q, l .split) (filled (l .content) (l .behind) (run (description 1) (l .content)) refl (l .bytes (λ i. g (suc i)) .0) (l .bytes (λ i. g (suc i)) .1) (l .read))
-    go false q e = undescribed (x ∷ b) (limited-only false nothing (x ∷ b) g e)
+    go : (s : Bool) → eqb x 0x81 ≡ s → cond s (withContent b describedBy) (limitedFrom false (nothing Compact) (x ∷ b)) ≡ accepted t → Content (x ∷ b) t
+    go true q e = let l = held b describedBy e in rw (eqb-true x 0x81 q, l .split) (filled (l .content) (l .behind) (run (description Compact) (l .content)) refl (l .bytes (λ i. g (suc i)) .0) (l .bytes (λ i. g (suc i)) .1) (l .read))
+    go false q e = undescribed (x ∷ b) (limited-only false (nothing Compact) (x ∷ b) g e)
 
 -- what was read is what writing its template writes
 pub written-read : (b : List ℕ) {t : Template} → Bytes b → templateOf b ≡ accepted t → ValidTemplate t × (b ≡ encode t)

@@ -13,6 +13,7 @@ use Rattle.channels.specs.Stored.{offset, valueOf}
 use Rattle.channels.specs.declared.Descriptor.{Descriptor}
 use Rattle.channels.specs.declared.Description.{Description}
 use Rattle.channels.specs.Descriptors.{noAttribute, absent}
+use Rattle.channels.specs.declared.Format.the-variants.{Compact}
 use Rattle.descriptions.specs.Description.{attribute, descriptor, includes, channelOf, description}
 use Rattle.descriptions.specs.Read.{nothing}
 use Rattle.refusals.specs.declared.Refusal.the-variants.{Short, Tag, Length, Maximum, XOrY, ReservedBit, LeftOver}
@@ -49,7 +50,7 @@ steady = record {
 }
 
 abbrev xy : List Descriptor → Description
-xy others = record { channels = plain ∷ plain ∷ others }
+xy others = record { channels = plain ∷ plain ∷ others; mark = Compact }
 
 -- the number of a refusal, and 0 for a template
 abbrev numbered : Judgement → ℕ
@@ -66,7 +67,7 @@ example b n a = record { bytes = b; number = n; answer = a }
 
 abbrev table : List Example
 table =
-    example (0xB1 ∷ 0x00 ∷ []) 0 (accepted (saying false nothing false 0))
+    example (0xB1 ∷ 0x00 ∷ []) 0 (accepted (saying false (nothing Compact) false 0))
     ∷ example (0xB1 ∷ 0x06 ∷ 0x81 ∷ 0x04 ∷ 0xC0 ∷ 0x00 ∷ 0x00 ∷ 0x00 ∷ []) 0 (accepted (saying true (xy (replicate 14 absent)) false 0))
     ∷ example (0xB1 ∷ 0x09 ∷ 0x81 ∷ 0x07 ∷ 0xC0 ∷ 0x80 ∷ 0x00 ∷ 0x00 ∷ 0x84 ∷ 0xB4 ∷ 0x80 ∷ []) 0
     (accepted (saying true (xy (replicate 6 absent ++ steady ∷ replicate 7 absent)) false 0))  -- C.2.1

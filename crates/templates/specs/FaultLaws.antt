@@ -8,6 +8,7 @@ use lib.ListN.{length, take, drop}
 use Rattle.formats.specs.Bytes.{Bytes, impossible}
 use Rattle.formats.specs.Reader.{Answer, ok, short, bad, run}
 use Rattle.channels.specs.declared.Description.{Description}
+use Rattle.channels.specs.declared.Format.the-variants.{Compact}
 use Rattle.descriptions.specs.Description.{description}
 use Rattle.descriptions.specs.Read.{nothing}
 use Rattle.descriptions.specs.Rules.{Breaks, xOrY, descriptorBit}
@@ -24,8 +25,8 @@ by-rule : {front before : List ℕ} {b k : ℕ} (place : ℕ) → Breaks 1 front
 by-rule place (xOrY x) = refl
 by-rule place (descriptorBit x) = refl
 
-pub number-kept : (b : List ℕ) {k p : ℕ} (place : ℕ) → Bytes b → run (description 1) b ≡ bad k p → numberOf (faultOf k place) ≡ k
-number-kept b place g e = by-rule place (faults-description 1 .breaks b g e)
+pub number-kept : (b : List ℕ) {k p : ℕ} (place : ℕ) → Bytes b → run (description Compact) b ≡ bad k p → numberOf (faultOf k place) ≡ k
+number-kept b place g e = by-rule place (faults-description Compact .breaks b g e)
 
 -- ---- Zeros
 
@@ -36,7 +37,7 @@ zeros-accepted : (t : Template) → Zeros (accepted t)
 zeros-accepted t = record { zeros = λ e. impossible (cc) }
 
 zeros-refused : (refusal : Refusal) → Zeros (refused refusal)
-zeros-refused refusal = record { zeros = λ e. ap (λ v. record { verdict = v; template = saying false nothing false 0 }) e }
+zeros-refused refusal = record { zeros = λ e. ap (λ v. record { verdict = v; template = saying false (nothing Compact) false 0 }) e }
 
 zeros-require : (test : Bool) (refusal : Refusal) {rest : Judged} → Zeros rest → Zeros (require test refusal rest)
 zeros-require true refusal z = z
@@ -66,12 +67,12 @@ zeros-filling size (bad number place) behind = zeros-refused (faultOf number (4 
 
 zeros-described : (b : List ℕ) → Zeros (contentOf b)
 unfolding contentOf describedBy
-zeros-described [] = zeros-limited false nothing []
+zeros-described [] = zeros-limited false (nothing Compact) []
 zeros-described (tag ∷ b) = go (eqb tag 0x81)
   where
-    go : (t : Bool) → Zeros (cond t (withContent b describedBy) (limitedFrom false nothing (tag ∷ b)))
-    go true = zeros-content b (λ content behind. zeros-filling (length content) (run (description 1) content) behind)
-    go false = zeros-limited false nothing (tag ∷ b)
+    go : (t : Bool) → Zeros (cond t (withContent b describedBy) (limitedFrom false (nothing Compact) (tag ∷ b)))
+    go true = zeros-content b (λ content behind. zeros-filling (length content) (run (description Compact) content) behind)
+    go false = zeros-limited false (nothing Compact) (tag ∷ b)
 
 -- where there is no template, nothing is said of one
 pub refused-zeros : (b : List ℕ) {refusal : Refusal} → templateOf b .verdict ≡ Refused refusal → templateOf b ≡ refused refusal

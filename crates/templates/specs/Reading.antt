@@ -7,6 +7,7 @@ use lib.ListN.{length, getD, take, drop}
 use Rattle.formats.specs.Reader.{Answer, ok, short, bad, run}
 use Rattle.formats.specs.Number.{value}
 use Rattle.channels.specs.declared.Description.{Description}
+use Rattle.channels.specs.declared.Format.the-variants.{Compact}
 use Rattle.descriptions.specs.Description.{description}
 use Rattle.descriptions.specs.Read.{nothing}
 use Rattle.templates.specs.declared.Template.{Template}
@@ -31,7 +32,7 @@ accepted t = record { verdict = Passed; template = t }
 
 -- a refusal comes with zeros
 abbrev pub refused : Refusal → Judged
-refused refusal = record { verdict = Refused refusal; template = saying false nothing false 0 }
+refused refusal = record { verdict = Refused refusal; template = saying false (nothing Compact) false 0 }
 
 -- what has to hold, the refusal where it doesn't, and how to go on where it does
 abbrev pub require : Bool → Refusal → Judged → Judged
@@ -79,12 +80,12 @@ filling size (bad number place) behind = refused (faultOf number (4 + place))
 
 -- 81's content, and what stands behind it
 unfoldable pub describedBy : (content behind : List ℕ) → Judged
-describedBy content behind = filling (length content) (run (description 1) content) behind
+describedBy content behind = filling (length content) (run (description Compact) content) behind
 
 -- 81 if it is there, and what may follow it
 unfoldable pub contentOf : List ℕ → Judged
-contentOf [] = limitedFrom false nothing []
-contentOf (tag ∷ b) = cond (eqb tag 0x81) (withContent b describedBy) (limitedFrom false nothing (tag ∷ b))
+contentOf [] = limitedFrom false (nothing Compact) []
+contentOf (tag ∷ b) = cond (eqb tag 0x81) (withContent b describedBy) (limitedFrom false (nothing Compact) (tag ∷ b))
 
 -- ---- The whole slice
 

@@ -7,6 +7,7 @@ use lib.Dec.{ltb}
 use lib.ListN.{length}
 use Rattle.formats.specs.Number.{digits}
 use Rattle.channels.specs.declared.Description.{Description}
+use Rattle.channels.specs.declared.Format.the-variants.{Compact}
 use Rattle.descriptions.specs.Description.{encodeDescription, Valid}
 use Rattle.descriptions.specs.Read.{nothing}
 use Rattle.templates.specs.declared.Template.{Template}
@@ -38,8 +39,8 @@ encode t = field 0xB1 (encodeDescribed (t .described) (t .description) ++ encode
 
 -- what can be written as 81 and as 82, and the zeros that stand for one that is absent
 abbrev pub Describes : (described : Bool) → Description → Type 0
-Describes true d = Valid 1 d
-Describes false d = d ≡ nothing
+Describes true d = Valid Compact d
+Describes false d = d ≡ nothing Compact
 
 abbrev pub Limits : (limited : Bool) (maximum : ℕ) → Type 0
 Limits true n = n < 16777216

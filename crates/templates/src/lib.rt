@@ -13,6 +13,7 @@ ghost use lib.ListN.{length, take, drop};
 ghost use Rattle.formats.specs.Number.{value};
 ghost use Rattle.templates.specs.Reading.{saying, accepted, refused, endOf, isShortest, limitedBy, limitedFrom, limitOf, filled, describedBy, contentOf, templateOf};
 ghost use Rattle.descriptions.specs.Read.{nothing};
+ghost use Rattle.channels.specs.declared.Format.the-variants.{Compact};
 
 // What a template says: a description of channels if it has one, and the largest number of points if it names one.
 // What it doesn't have is zeros here. The description stands first, where no gap comes before it: so it is copied whole.
@@ -37,7 +38,7 @@ fn refused(refusal: Refusal) -> Judged
         verdict: Judgement::Refused(refusal),
         template: Template {
             described: false,
-            description: descriptions::nothing(),
+            description: descriptions::nothing(Format::Compact),
             limited: false,
             maximum: 0,
         },
@@ -127,7 +128,7 @@ fn no_limit(refusal: Refusal) -> Limit
 }
 
 fn up_to(limited: bool, maximum: u32) -> Limit
-    ensures { λ r. ⌜ r ≡ limitOf (accepted (saying false nothing limited maximum)) ⌝ }
+    ensures { λ r. ⌜ r ≡ limitOf (accepted (saying false (nothing Compact) limited maximum)) ⌝ }
 {
     Limit {
         verdict: Judgement::Passed,
@@ -150,7 +151,7 @@ fn fill(described: bool, description: Description, limit: Limit) -> Judged
 // The largest number of points, from `start` to `end`; nothing may follow it.
 fn limited_by(s: &[u8], start: usize, end: usize) -> Limit
     requires { ⌜ (start ≤ end) × (end ≤ length (now s)) ⌝ }
-    ensures { λ r. ⌜ r ≡ limitOf (limitedBy false nothing (take (end - start) (drop start (now (s .entry)))) (drop end (now (s .entry)))) ⌝ }
+    ensures { λ r. ⌜ r ≡ limitOf (limitedBy false (nothing Compact) (take (end - start) (drop start (now (s .entry)))) (drop end (now (s .entry)))) ⌝ }
 {
     let content = &s[start..end];
     if !is_shortest(content) {
@@ -165,7 +166,7 @@ fn limited_by(s: &[u8], start: usize, end: usize) -> Limit
 
 // The field 82 or the end, behind what was said of channels.
 fn limited_from(s: &[u8], at: usize) -> Limit
-    ensures { λ r. ⌜ r ≡ limitOf (limitedFrom false nothing (drop at (now (s .entry)))) ⌝ }
+    ensures { λ r. ⌜ r ≡ limitOf (limitedFrom false (nothing Compact) (drop at (now (s .entry)))) ⌝ }
 {
     if s.len() <= at {
         return up_to(false, 0);
@@ -214,10 +215,18 @@ fn content_of(s: &[u8]) -> Judged
     ensures { λ r. ⌜ r ≡ contentOf (drop 2 (now (s .entry))) ⌝ }
 {
     if s.len() <= 2 {
-        return fill(false, descriptions::nothing(), limited_from(s, 2));
+        return fill(
+            false,
+            descriptions::nothing(Format::Compact),
+            limited_from(s, 2),
+        );
     }
     if s[2] != 0x81 {
-        return fill(false, descriptions::nothing(), limited_from(s, 2));
+        return fill(
+            false,
+            descriptions::nothing(Format::Compact),
+            limited_from(s, 2),
+        );
     }
     match end_of(s, 3) {
         End::At(end) => described_by(s, end),

@@ -19,7 +19,7 @@ ghost use Rattle.values.specs.Values.{samplesIn, samplesFrom, judgementO
 ghost use Rattle.values.specs.Parts.{Inside, pointBytes, pointsBytes, bytesLeft};
 
 // What is stored for a number of a channel, if anything is.
-fn stored_sample(format: Format, channel: usize, value: i32) -> Stored
+pub fn stored_sample(format: Format, channel: usize, value: i32) -> Stored
     ensures { λ r. ⌜ r ≡ storedSample (widthOf format) channel value ⌝ }
 {
     if channel == channels::S {

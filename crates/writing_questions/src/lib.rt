@@ -2,41 +2,30 @@
 ghost use Prim.Native.Nat.{_≤_};
 use answers::Answer;
 use channels::Description;
+use channels::Format;
 use fields::Template;
 use fields::Wanted;
 use orders::Order;
 use record_writing::Written;
-
-// The first of some values.
-fn first<'a>(values: &'a [i32; 131072], count: usize) -> &'a [i32] {
-    let all: &[i32] = values;
-    if 131072 < count {
-        return &all[0..0];
-    }
-    &all[0..count]
-}
-
-// The extended data are the first bytes of their space.
-fn extended_data<'a>(space: &'a [u8; 131072], count: usize) -> &'a [u8] {
-    words::part(space, 0, count)
-}
 
 // What `record_at` reads, and channels. The values stand in either order.
 pub fn write(text: &mut [u8; 65536], used: u16, line: &[u8], at: usize, order: Order) -> u16 {
     let mut values = [0; 131072];
     let mut space = [0; 131072];
     let wanted = fields::record_at(line, at, &mut values, &mut space);
-    let reason = fields::first_of(wanted.reason, sayings::reason_at(line, wanted.behind));
+    let marked = sayings::mark_at(line, wanted.behind, Format::Full);
+    let mark = marked.mark;
+    let reason = fields::first_of(wanted.reason, sayings::reason_at(line, marked.behind));
     if reason != words::NO_REASON {
         return answers::cannot(text, used, reason);
     }
     write_record(
         text,
         used,
-        sayings::description_at(line, wanted.behind),
+        sayings::description_at(line, marked.behind, mark),
         wanted,
-        first(&values, wanted.given),
-        extended_data(&space, wanted.lent),
+        numerals::first(&values, wanted.given),
+        hex::first(&space, wanted.lent),
         order,
     )
 }
@@ -62,7 +51,7 @@ fn write_record(
         order,
         &mut out[0..room],
     );
-    put(text, used, of_written(written), &out, room)
+    put(text, used, of_written(written), hex::first(&out, room))
 }
 
 fn ask(
@@ -95,23 +84,24 @@ fn of_written(written: Written) -> Answer {
 }
 
 // What was written or why not, and all the bytes that were lent.
-fn put(text: &mut [u8; 65536], start: u16, answer: Answer, out: &[u8; 131072], room: usize) -> u16 {
+fn put(text: &mut [u8; 65536], start: u16, answer: Answer, lent: &[u8]) -> u16 {
     let used = answers::put(text, start, answer);
-    let used = texts::put(text, used, b' ');
-    texts::put_hex(text, used, words::part(out, 0, room))
+    answers::put_lent(text, used, lent)
 }
 
 // What `template_at` reads, and channels.
 pub fn write_template(text: &mut [u8; 65536], used: u16, line: &[u8], at: usize) -> u16 {
     let template = fields::template_at(line, at);
-    let reason = fields::first_of(template.reason, sayings::reason_at(line, template.behind));
+    let marked = sayings::mark_at(line, template.behind, Format::Compact);
+    let mark = marked.mark;
+    let reason = fields::first_of(template.reason, sayings::reason_at(line, marked.behind));
     if reason != words::NO_REASON {
         return answers::cannot(text, used, reason);
     }
     write_described(
         text,
         used,
-        sayings::description_at(line, template.behind),
+        sayings::description_at(line, marked.behind, mark),
         template,
     )
 }
@@ -133,7 +123,7 @@ fn write_described(
         template.maximum,
         &mut out[0..room],
     );
-    put(text, used, of_template(written), &out, room)
+    put(text, used, of_template(written), hex::first(&out, room))
 }
 
 fn of_template(written: template_writing::Written) -> Answer {

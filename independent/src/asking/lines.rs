@@ -1,8 +1,11 @@
 //! Lines that cannot be read, lines spelled oddly, and the ends of lines and inputs.
 
 use crate::answers::LONGEST_LINE;
+use crate::body::Points;
+use crate::body_examples::BODY_UNREADABLE;
 use crate::columns_examples::COLUMNS_UNREADABLE;
 use crate::compare::Comparison;
+use crate::description::{Description, Format};
 use crate::examples::UNREADABLE;
 use crate::inputs;
 use crate::questions;
@@ -15,7 +18,8 @@ const SPELLED: &str = "lines spelled oddly";
 const INPUTS: &str = "whole inputs: long lines, last lines, empty lines";
 
 pub fn ask_all(comparison: &mut Comparison, random: &mut Random) {
-    for (line, answer) in UNREADABLE.iter().chain(COLUMNS_UNREADABLE) {
+    let unreadable = [UNREADABLE, COLUMNS_UNREADABLE, BODY_UNREADABLE];
+    for (line, answer) in unreadable.into_iter().flatten() {
         comparison.ask_typed(TYPED, line, answer);
     }
     limits(comparison);
@@ -40,16 +44,21 @@ fn limits(comparison: &mut Comparison) {
     let lent = ",99999".repeat(131_072);
     let answer = format!("refused 2 1 {}", &lent[1..]);
     comparison.ask_typed(TYPED, "columns-in 131072 53 45", &answer);
+    let answer = format!("written 0 {untouched}AAAA");
+    let line = "write-body 0 - ! 131072 B1068104C0000000";
+    comparison.ask_typed(TYPED, line, &answer);
+    let answer = format!("refused 2 1 {untouched}AAAA {untouched}AAAA");
+    comparison.ask_typed(TYPED, "turn 131072 131072 53 45", &answer);
 }
 
-/// A short question of any of the fifteen sorts.
+/// A short question of any of the nineteen sorts, now and then with a mark.
 fn any_question(random: &mut Random) -> String {
     let parts = inputs::small_parts(random);
     let bytes = inputs::bytes(&parts);
     let template = inputs::template(random);
     let room = random.below(40);
     let index = random.between(0, 3);
-    match random.below(16) {
+    match random.below(20) {
         0 => questions::of_bytes("judge", &bytes),
         1 => questions::of_bytes("whole", &bytes),
         2 => questions::of_bytes("extended", &bytes),
@@ -57,8 +66,14 @@ fn any_question(random: &mut Random) -> String {
         4 => questions::point(index, &bytes),
         5 => questions::step(index as usize, &bytes),
         6 => questions::of_bytes("template", &inputs::template_bytes(&template)),
-        7 | 8 => questions::write(&parts, bytes.len()),
-        9 => questions::write_template(&template, room),
+        7 | 8 => {
+            let line = questions::write(&parts, bytes.len());
+            perhaps_marked(random, line)
+        }
+        9 => {
+            let line = questions::write_template(&template, room);
+            perhaps_marked(random, line)
+        }
         10 => format!(
             "thousandths {} {} {}",
             index * 1000 - 1500,
@@ -67,13 +82,44 @@ fn any_question(random: &mut Random) -> String {
         ),
         11 => questions::look_up(index, &bytes),
         12 => questions::of_bytes("columns", &bytes),
-        13 => {
-            let right = parts.values.len();
-            let amount = random.pick(&[right, right + 1, room]);
-            questions::columns_in(amount, &bytes)
-        }
+        13 => questions::columns_in(parts.values.len() + index as usize % 2, &bytes),
         14 => questions::write_columns(&inputs::in_columns(&parts), bytes.len()),
+        15..=18 => of_compact(random, &template),
         _ => any_place(random, template),
+    }
+}
+
+fn perhaps_marked(random: &mut Random, line: String) -> String {
+    match random.below(4) {
+        0 => questions::with_mark(&line, Format::Full),
+        1 => questions::with_mark(&line, Format::Compact),
+        _ => line,
+    }
+}
+
+/// One of the questions of request L4.
+fn of_compact(random: &mut Random, template: &Template) -> String {
+    let bytes = inputs::template_bytes(template);
+    let narrow = template
+        .description
+        .unwrap_or(Description::empty(Format::Compact));
+    let count = random.between(0, 2);
+    let body = inputs::points(random, &narrow, count);
+    match random.below(4) {
+        0 => questions::body(&bytes, &body),
+        1 => questions::body_point(count - count.min(1), &bytes, &body),
+        2 => {
+            let points = Points {
+                count,
+                values: inputs::values(random, &narrow, count),
+                extended: inputs::extended(random).filter(|_| random.one_in(3)),
+            };
+            questions::write_body(&bytes, &points, body.len())
+        }
+        _ => {
+            let record = inputs::bytes(&inputs::fitting_parts(random));
+            questions::turn([random.below(60), body.len()], &record)
+        }
     }
 }
 
@@ -173,7 +219,8 @@ fn place_of_change(random: &mut Random, line: &[u8]) -> usize {
 /// Words that can stand somewhere.
 const WORDS: &str = "! - . 0 -1 -0 1 131072 131073 4294967296 2147483648 X !X Az.constant \
     !Y.mean=3 X.!mean=5 X.!constant X.mean=5.mean=6 R.deviation=-1 S.removed.constant \
-    X.scaling=65536 00 B1 !00 !- judge place 1,2 000000000000000001";
+    X.scaling=65536 00 B1 !00 !- judge place 1,2 000000000000000001 full compact !full \
+    B1068104C0000000";
 
 /// A word put in, left out, doubled or exchanged for another.
 fn change_words(random: &mut Random, line: &mut Vec<u8>) {

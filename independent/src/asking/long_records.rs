@@ -32,7 +32,7 @@ const M: &str = "5344490020313000C00000000000000000";
 fn longest_extended(comparison: &mut Comparison, random: &mut Random) {
     let data = digits(&random.bytes(65535));
     let whole = format!("{FRONT}{data}");
-    let good = "record 65554 0 extended X Y";
+    let good = "record 65554 0 extended full X Y";
     let mut typed = |line: &str, answer: &str| comparison.ask_typed(EXTENDED, line, answer);
     typed(&format!("judge {whole}"), good);
     typed(&format!("whole {whole}"), good);
@@ -172,7 +172,7 @@ fn points_of_one_byte(comparison: &mut Comparison) {
     let bytes = format!("5344490020313000C0200404000000{count}{zeros}{others}");
     let said = "X.constant Y.constant S";
     let mut typed = |line: &str, answer: &str| comparison.ask_typed(POINTS, line, answer);
-    let good = format!("record 100018 100000 plain {said}");
+    let good = format!("record 100018 100000 plain full {said}");
     typed(&format!("judge {bytes}"), &good);
     typed(&format!("whole {bytes}"), &good);
     let cut = &bytes[..bytes.len() - 2];

@@ -1,5 +1,7 @@
 //! What is asked of the two programs, one file for each sort of input.
 
+mod answer_words;
+mod bodies;
 mod calibration;
 mod columns;
 mod damage;
@@ -9,11 +11,13 @@ mod lines;
 mod long_records;
 mod long_writes;
 mod lookups;
+mod marks;
 mod naming;
 mod order;
 mod readings;
 mod records;
 mod templates;
+mod turning;
 mod writes;
 
 use crate::compare::Comparison;
@@ -23,7 +27,7 @@ use crate::random::Random;
 
 pub fn everything(comparison: &mut Comparison, seed: u64) {
     examples::ask_all(comparison);
-    let sorts: [fn(&mut Comparison, &mut Random); 15] = [
+    let sorts: [fn(&mut Comparison, &mut Random); 18] = [
         records::ask_all,
         damage::ask_all,
         joined::ask_all,
@@ -39,6 +43,9 @@ pub fn everything(comparison: &mut Comparison, seed: u64) {
         naming::ask_all,
         lookups::ask_all,
         columns::ask_all,
+        marks::ask_all,
+        bodies::ask_all,
+        turning::ask_all,
     ];
     for (number, ask_all) in sorts.into_iter().enumerate() {
         // Each sort has a seed of its own, so that a change in one leaves the others.

@@ -2,13 +2,14 @@
 //! Every answer is compared as elsewhere. Besides, each is held against its question by the plain
 //! check in `check`, and answers to questions that differ in one thing are judged by twos.
 
-mod attributes;
+pub mod attributes;
 pub mod check;
 mod readings;
 pub mod values;
 
 use super::writes::ENDS;
 use crate::compare::{Answered, Claim, Comparison};
+use crate::questions::words_before_description;
 use crate::random::Random;
 
 const TURNED: Claim = (
@@ -67,11 +68,7 @@ fn try_flags(comparison: &mut Comparison, kind: &'static str, tried: &[Flagged])
 
 /// A line of a writer with its channels in another order, and in each channel its parts.
 fn reordered(line: &str, mut order: impl FnMut(&mut [String])) -> String {
-    let fixed = if line.starts_with("write-template") {
-        3
-    } else {
-        5
-    };
+    let fixed = words_before_description(line);
     let mut words: Vec<String> = line.split(' ').map(String::from).collect();
     for word in &mut words[fixed..] {
         let mut parts: Vec<String> = word.split('.').map(String::from).collect();

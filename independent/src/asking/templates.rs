@@ -44,8 +44,10 @@ fn good(comparison: &mut Comparison, random: &mut Random) {
         ask(comparison, GOOD, &inputs::template_bytes(&template));
     }
     // All sixteen channels with all attributes: 81 holds 114 bytes.
-    let description =
-        std::array::from_fn(|channel| inputs::said(random, Format::Compact, channel, 0xFE));
+    let mut description = Description::empty(Format::Compact);
+    for (channel, said) in description.iter_mut().enumerate() {
+        *said = inputs::said(random, Format::Compact, channel, 0xFE);
+    }
     let template = Template {
         description: Some(description),
         maximum: Some(16_777_215),
@@ -57,7 +59,7 @@ fn good(comparison: &mut Comparison, random: &mut Random) {
 fn every_flag(comparison: &mut Comparison, random: &mut Random) {
     for channel in 0..16 {
         for flags in 0..128 {
-            let mut description = Description::default();
+            let mut description = Description::empty(Format::Compact);
             for each in [0, 1, channel] {
                 let flags = if each == channel { flags * 2 } else { 0 };
                 description[each] = inputs::said(random, Format::Compact, each, flags);
@@ -181,21 +183,25 @@ fn every_maximum(comparison: &mut Comparison) {
 /// A few elements in any order, repeated, wrong or right, with lengths mostly right.
 fn soup(comparison: &mut Comparison, random: &mut Random) {
     for _ in 0..comparison.amount(6000) {
-        let mut content = Vec::new();
-        for _ in 0..random.below(4) {
-            content.extend(element(random));
-        }
-        let mut bytes = vec![0xB1, content.len() as u8];
-        bytes.extend(content);
-        match random.below(12) {
-            0 => bytes[1] = bytes[1].wrapping_add(1),
-            1 => bytes[1] = bytes[1].wrapping_sub(1),
-            2 => bytes[0] = random.byte(),
-            3 => bytes.push(random.byte()),
-            _ => {}
-        }
-        ask(comparison, WRONG, &bytes);
+        ask(comparison, WRONG, &any_elements(random));
     }
+}
+
+pub fn any_elements(random: &mut Random) -> Vec<u8> {
+    let mut content = Vec::new();
+    for _ in 0..random.below(4) {
+        content.extend(element(random));
+    }
+    let mut bytes = vec![0xB1, content.len() as u8];
+    bytes.extend(content);
+    match random.below(12) {
+        0 => bytes[1] = bytes[1].wrapping_add(1),
+        1 => bytes[1] = bytes[1].wrapping_sub(1),
+        2 => bytes[0] = random.byte(),
+        3 => bytes.push(random.byte()),
+        _ => {}
+    }
+    bytes
 }
 
 fn element(random: &mut Random) -> Vec<u8> {
@@ -291,6 +297,31 @@ fn stages(comparison: &mut Comparison, random: &mut Random) {
 }
 
 fn ask_broken(comparison: &mut Comparison, random: &mut Random, broken: u8) {
+    let Broken {
+        description,
+        maximum,
+        room,
+    } = break_stages(random, broken);
+    let template = Template {
+        description: Some(description),
+        maximum: Some(maximum),
+    };
+    comparison.ask(STAGES, questions::write_template(&template, room));
+    for word in [maximum.to_string(), format!("!{maximum}")] {
+        let line = questions::write_template_unwanted(&word, room, &description);
+        comparison.ask(STAGES, line);
+    }
+}
+
+/// What a template is written from, and the room.
+pub struct Broken {
+    pub description: Description,
+    pub maximum: i64,
+    pub room: usize,
+}
+
+/// The five low bits of `broken` are the stages 4, 11, 12 and 12, and 15 in their order.
+pub fn break_stages(random: &mut Random, broken: u8) -> Broken {
     let mut description = inputs::description(random, Format::Compact, X_AND_Y, Constants::Some);
     let maximum = if broken & 8 != 0 {
         16_777_216 + random.between(0, 9)
@@ -311,14 +342,10 @@ fn ask_broken(comparison: &mut Comparison, random: &mut Random, broken: u8) {
     } else {
         60
     };
-    let template = Template {
-        description: Some(description),
-        maximum: Some(maximum),
-    };
-    comparison.ask(STAGES, questions::write_template(&template, room));
-    for word in [maximum.to_string(), format!("!{maximum}")] {
-        let line = questions::write_template_unwanted(&word, room, &description);
-        comparison.ask(STAGES, line);
+    Broken {
+        description,
+        maximum,
+        room,
     }
 }
 

@@ -161,7 +161,7 @@ pub fn break_value(random: &mut Random, parts: &mut Parts) {
     let channels = stored(&parts.description);
     let place = random.below(parts.values.len());
     if let Some(value) = parts.values.get_mut(place) {
-        let (low, high) = value_range(channels[place % channels.len()]);
+        let (low, high) = value_range(parts.description.mark, channels[place % channels.len()]);
         *value = random.pick(&[low - 1, high + 1, ENDS[0], ENDS[1]]);
     }
 }
@@ -185,7 +185,7 @@ fn attributes(comparison: &mut Comparison, random: &mut Random) {
 /// Every channel's value at its ends and outside, in the first, a middle and the last point.
 fn values(comparison: &mut Comparison, random: &mut Random) {
     for channel in 0..16 {
-        let (low, high) = value_range(channel);
+        let (low, high) = value_range(Format::Full, channel);
         for number in [
             low - 1,
             low,

@@ -1,6 +1,5 @@
 -- `channels::limit_of` meets its contract: the limits of the two formats, by cases.
 use borrow.Author.Needs.{needs}
-use Rattle.channels.specs.Channel.{widthOf}
 use Rattle.channels.proofs.limit_of.Statement.{statement}
 use Rattle.channels.proofs.limit_of.Tie as tie
 
@@ -11,11 +10,9 @@ enum-told-2 : tie.Need-enum-told-2
 enum-told-2 c = search needs
 
 returns : tie.Need-returns
-unfolding widthOf
 returns c = rw (c .enum-told .given .1)
 
 returns-2 : tie.Need-returns-2
-unfolding widthOf
 returns-2 c = rw (c .enum-told2 .given .1)
 
 pub limit-of-spec : {M : Type 1} → statement M

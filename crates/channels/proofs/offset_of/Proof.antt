@@ -1,6 +1,5 @@
 -- `channels::offset_of` meets its contract: the offsets of the two formats, by cases.
 use borrow.Author.Needs.{needs}
-use Rattle.channels.specs.Channel.{widthOf}
 use Rattle.channels.specs.Stored.{offset}
 use Rattle.channels.proofs.offset_of.Statement.{statement}
 use Rattle.channels.proofs.offset_of.Tie as tie
@@ -12,11 +11,11 @@ enum-told-2 : tie.Need-enum-told-2
 enum-told-2 c = search needs
 
 returns : tie.Need-returns
-unfolding offset widthOf
+unfolding offset
 returns c = rw (c .before .before .if1 .taken, c .enum-told .given .1)
 
 returns-2 : tie.Need-returns-2
-unfolding offset widthOf
+unfolding offset
 returns-2 c = rw (c .before .before .if1 .taken, c .enum-told2 .given .1)
 
 returns-3 : tie.Need-returns-3

@@ -2,7 +2,6 @@
 use mathlib.Core.Path.{refl}
 use native.Mathlib.Omega.{arith}
 use borrow.Author.Needs.{needs}
-use Rattle.channels.specs.Channel.{widthOf}
 use Rattle.channels.proofs.width.Statement.{statement}
 use Rattle.channels.proofs.width.Tie as tie
 
@@ -13,11 +12,9 @@ enum-told-2 : tie.Need-enum-told-2
 enum-told-2 c = search needs
 
 returns : tie.Need-returns
-unfolding widthOf
 returns c = rw (c .enum-told .given .1) (refl, omega arith)
 
 returns-2 : tie.Need-returns-2
-unfolding widthOf
 returns-2 c = rw (c .enum-told2 .given .1) (refl, omega arith)
 
 pub width-spec : {M : Type 1} → statement M

@@ -3,10 +3,9 @@ use mathlib.Core.Path.{_≡_, sym, ap, ap₂, _∙_}
 use mathlib.Core.Logic.{⊎-elim}
 use denote.Ref.{now}
 use Rattle.formats.specs.Reader.{readAt}
-use Rattle.channels.specs.Channel.{widthOf}
 use Rattle.descriptions.specs.Description.{description}
 use Rattle.descriptions.specs.Read.{described}
-use Rattle.costs.specs.Handed.{widthIf, handedOutcome, handedDescription, handedChannel}
+use Rattle.costs.specs.Handed.{formatIf, handedOutcome, handedDescription, handedChannel}
 use borrow.Author.Needs.{needs}
 use Rattle.costs.proofs.costs_describe.Statement.{statement}
 use Rattle.costs.proofs.costs_describe.Tie as tie
@@ -41,14 +40,14 @@ cast-t22 c = search needs
 place-of-requires : tie.Need-place-of-requires
 place-of-requires c κs = search needs
 
--- the width is the one of the format that was asked for
-width : (r : tie.Joined1) → widthOf (r .if1 .format) ≡ widthIf (r .before .before .args .compact)
-unfolding widthIf widthOf
-width r = ⊎-elim (λ w. rw (w .1, w .0 .taken)) (λ w. rw (w .1, w .0 .left)) (r .if1 .came)
+-- the format is the one that was asked for
+format : (r : tie.Joined1) → r .if1 .format ≡ formatIf (r .before .before .args .compact)
+unfolding formatIf
+format r = ⊎-elim (λ w. rw (w .1, w .0 .taken)) (λ w. rw (w .1, w .0 .left)) (r .if1 .came)
 
 read : (r : tie.After-read) → let a = r .before .before .before .args in
-    r .read .result ≡ described (readAt (description (widthIf (a .compact))) (now (a .bytes)) 0)
-read r = r .read .ensures ∙ ap (λ w. described (readAt (description w) (now (r .before .before .before .args .bytes)) 0)) (width (r .before))
+    r .read .result ≡ described (formatIf (a .compact)) (readAt (description (formatIf (a .compact))) (now (a .bytes)) 0)
+read r = r .read .ensures ∙ ap (λ f. described f (readAt (description f) (now (r .before .before .before .args .bytes)) 0)) (format (r .before))
 
 returns : tie.Need-returns
 unfolding handedDescription handedChannel

@@ -1,7 +1,7 @@
 -- `costs::costs_write` meets its contract: what `record_writing` answers, and the bytes as it leaves them.
 use denote.Ref.{now}
-use Rattle.channels.specs.Channel.{widthOf}
 use Rattle.record_writing.specs.Write.{writeOf}
+use Rattle.channels.specs.declared.Format.the-variants.{Full}
 use Rattle.costs.specs.Handed.{handedRecord}
 use Rattle.costs.proofs.Writings.{handed-over}
 use borrow.Author.Needs.{needs}
@@ -30,24 +30,22 @@ same-length : tie.Need-same-length
 same-length c = search needs
 
 returns : tie.Need-returns
-unfolding widthOf
 returns c =
     let w = c .before .before .before .before .before in
     let r = w .before .before .before in
     let a = r .before .before .before .before .args in
-    handed-over handedRecord (λ d. writeOf d (a .count) (now (a .values)) (a .wanted) (now (a .extended)) (now (a .out))) 2 (now (a .header)) (r .read .ensures) (c .before .written .given .1) (w .write .ensures)
+    handed-over handedRecord (λ d. writeOf d (a .count) (now (a .values)) (a .wanted) (now (a .extended)) (now (a .out))) Full (now (a .header)) (r .read .ensures) (c .before .written .given .1) (w .write .ensures)
 
 same-length-2 : tie.Need-same-length-2
 same-length-2 c = search needs
 
 returns-2 : tie.Need-returns-2
-unfolding widthOf
 returns-2 c =
     let v = c .before .before in
     let w = v .before .before .before .before in
     let r = w .before .before .before in
     let a = r .before .before .before .before .args in
-    rw (c .number .ensures) (handed-over handedRecord (λ d. writeOf d (a .count) (now (a .values)) (a .wanted) (now (a .extended)) (now (a .out))) 2 (now (a .header)) (r .read .ensures) (v .written2 .given .1) (w .write .ensures))
+    rw (c .number .ensures) (handed-over handedRecord (λ d. writeOf d (a .count) (now (a .values)) (a .wanted) (now (a .extended)) (now (a .out))) Full (now (a .header)) (r .read .ensures) (v .written2 .given .1) (w .write .ensures))
 
 pub costs-write-spec : {M : Type 1} → statement M
 costs-write-spec =

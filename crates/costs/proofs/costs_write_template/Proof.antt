@@ -1,8 +1,8 @@
 -- `costs::costs_write_template` meets its contract: what `template_writing` answers, and the bytes as it leaves them.
 use mathlib.Core.Bool.{true}
 use denote.Ref.{now}
-use Rattle.channels.specs.Channel.{widthOf}
 use Rattle.template_writing.specs.Writing.{writeOf}
+use Rattle.channels.specs.declared.Format.the-variants.{Compact}
 use Rattle.costs.specs.Handed.{handedTemplate}
 use Rattle.costs.proofs.Writings.{handed-over}
 use borrow.Author.Needs.{needs}
@@ -31,24 +31,22 @@ same-length : tie.Need-same-length
 same-length c = search needs
 
 returns : tie.Need-returns
-unfolding widthOf
 returns c =
     let w = c .before .before .before .before .before in
     let r = w .before .before .before in
     let a = r .before .before .before .args in
-    handed-over handedTemplate (λ d. writeOf true d (a .limited) (a .maximum) (now (a .out))) 1 (now (a .header)) (r .read .ensures) (c .before .written .given .1) (w .write .ensures)
+    handed-over handedTemplate (λ d. writeOf true d (a .limited) (a .maximum) (now (a .out))) Compact (now (a .header)) (r .read .ensures) (c .before .written .given .1) (w .write .ensures)
 
 same-length-2 : tie.Need-same-length-2
 same-length-2 c = search needs
 
 returns-2 : tie.Need-returns-2
-unfolding widthOf
 returns-2 c =
     let v = c .before .before in
     let w = v .before .before .before .before in
     let r = w .before .before .before in
     let a = r .before .before .before .args in
-    rw (c .number .ensures) (handed-over handedTemplate (λ d. writeOf true d (a .limited) (a .maximum) (now (a .out))) 1 (now (a .header)) (r .read .ensures) (v .written2 .given .1) (w .write .ensures))
+    rw (c .number .ensures) (handed-over handedTemplate (λ d. writeOf true d (a .limited) (a .maximum) (now (a .out))) Compact (now (a .header)) (r .read .ensures) (v .written2 .given .1) (w .write .ensures))
 
 pub costs-write-template-spec : {M : Type 1} → statement M
 costs-write-template-spec =

@@ -10,7 +10,7 @@ use Rattle.refusals.specs.Ranges.{firstMisfit}
 use Rattle.refusals.specs.declared.Judgement.{Judgement}
 use Rattle.channels.specs.Channel.{widthOf}
 use Rattle.channels.specs.Descriptors.{absent}
-use Rattle.descriptions.specs.Description.{tidyDescriptor, tidy, every}
+use Rattle.descriptions.specs.Description.{tidyDescriptor, neat, every}
 use Rattle.description_judging.specs.Judging.{numbersOf, numbersFrom, numbers}
 use Rattle.description_judging.proofs.Judging.{every-holds, numbers-next, numbers-none}
 use Rattle.description_judging.proofs.first_misfit.Statement.{statement}
@@ -28,7 +28,7 @@ sixteen : (s : tie.Start Inv-loop μ-loop) → length (s .args .t1 .channels) �
 sixteen s = simp length-map at (s .good .0 .1 .1 .0 .1 .0 .1)
 
 loop-holds : tie.Need-loop-holds Inv-loop μ-loop
-unfolding tidy numbers
+unfolding neat numbers
 loop-holds c = search needs
 
 mul-d : tie.Need-mul-d Inv-loop μ-loop
@@ -45,8 +45,8 @@ module _ (c : tie.In-loop Inv-loop μ-loop) where
   inside : c .before .loop .i < length (start .args .t1 .channels)
   inside = omega (arith, sixteen start)
 
-  neat : T (tidyDescriptor (getD (start .args .t1 .channels) (c .before .loop .i) absent)) × T (every (λ channel. tidyDescriptor) (c .before .loop .i + 1) (drop (c .before .loop .i + 1) (start .args .t1 .channels)))
-  neat = every-holds (λ channel. tidyDescriptor) (start .args .t1 .channels) (c .before .loop .i) inside (c .before .loop .inv .1)
+  tidied : T (tidyDescriptor (getD (start .args .t1 .channels) (c .before .loop .i) absent)) × T (every (λ channel. tidyDescriptor) (c .before .loop .i + 1) (drop (c .before .loop .i + 1) (start .args .t1 .channels)))
+  tidied = every-holds (λ channel. tidyDescriptor) (start .args .t1 .channels) (c .before .loop .i) inside (c .before .loop .inv .1)
 
   abbrev later : Judgement
   later = firstMisfit (numbersFrom (widthOf (start .args .format)) (c .before .loop .i + 1) (drop (c .before .loop .i + 1) (start .args .t1 .channels)))
@@ -56,7 +56,7 @@ module _ (c : tie.In-loop Inv-loop μ-loop) where
   judged e = c .before .loop .inv .2 ∙ numbers-next (widthOf (start .args .format)) (start .args .t1 .channels) (c .before .loop .i) inside ∙ ap (λ f. orElse f later) e
 
 judge-numbers-requires : tie.Need-judge-numbers-requires Inv-loop μ-loop
-judge-numbers-requires c κs = neat (c .before) .0
+judge-numbers-requires c κs = tidied (c .before) .0
 
 enum-told : tie.Need-enum-told Inv-loop μ-loop
 enum-told c = search needs
@@ -81,7 +81,7 @@ loop-again : tie.Need-loop-again Inv-loop μ-loop
 unfolding orElse
 loop-again c =
     let x = c .before .before in
-    (search needs, neat (x .before .before) .1, judged (x .before .before) (sym (x .judge-numbers .ensures) ∙ c .enum-told2 .given .1))
+    (search needs, tidied (x .before .before) .1, judged (x .before .before) (sym (x .judge-numbers .ensures) ∙ c .enum-told2 .given .1))
 
 returns-2 : tie.Need-returns-2 Inv-loop μ-loop
 returns-2 c =

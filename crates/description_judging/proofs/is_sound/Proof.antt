@@ -10,7 +10,7 @@ use Rattle.channels.specs.BitLaws.{SignsLeft, moved-on, signs-none, sign-first}
 use Rattle.channels.specs.Channel.{widthOf}
 use Rattle.channels.specs.declared.Descriptor.{Descriptor}
 use Rattle.channels.specs.Descriptors.{absent}
-use Rattle.descriptions.specs.Description.{tidyDescriptor, tidy, fitsDescriptor, allFit, every}
+use Rattle.descriptions.specs.Description.{tidyDescriptor, fitsDescriptor, neat, allFit, every}
 use Rattle.description_judging.proofs.Judging.{every-both, every-none, every-fails, every-passes}
 use Rattle.description_judging.proofs.is_sound.Statement.{statement}
 use Rattle.description_judging.proofs.is_sound.Tie as tie
@@ -21,7 +21,7 @@ sound w channel d = tidyDescriptor d && fitsDescriptor w channel d
 
 abbrev Inv-loop : tie.InvT-loop
 Inv-loop format description signs₀ i₀ signs i =
-    (i ≤ 16) × SignsLeft signs i × ((tidy description && allFit (widthOf format) description) ≡ every (sound (widthOf format)) i (drop i (description .channels)))
+    (i ≤ 16) × SignsLeft signs i × ((neat description && allFit (widthOf format) description) ≡ every (sound (widthOf format)) i (drop i (description .channels)))
 
 abbrev μ-loop : tie.MeasureT-loop
 μ-loop format description signs₀ i₀ signs i = 16 - i
@@ -33,7 +33,7 @@ signs-requires : tie.Need-signs-requires Inv-loop μ-loop
 signs-requires c κs = search needs
 
 loop-holds : tie.Need-loop-holds Inv-loop μ-loop
-unfolding tidy allFit
+unfolding neat allFit
 loop-holds c = (omega arith, signs-none (c .signs .ensures), every-both (λ channel. tidyDescriptor) (fitsDescriptor (widthOf (c .before .args .format))) 0 (c .before .args .t1 .channels))
 
 mul-d : tie.Need-mul-d Inv-loop μ-loop

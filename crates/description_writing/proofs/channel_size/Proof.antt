@@ -42,7 +42,6 @@ add-result-5 : tie.Need-add-result-5
 add-result-5 c = search needs
 
 returns-2 : tie.Need-returns-2
-unfolding widthOf
 returns-2 c =
     let e = c .before .before .before .before in
     let a = e .before .before .before .args in

@@ -1,7 +1,6 @@
 -- `description_writing::put` meets its contract: a refusal decides before the room does, and where there is none all numbers fit.
 use mathlib.Core.Path.{_≡_, sym, _∙_}
 use borrow.Author.Needs.{needs}
-use Rattle.channels.specs.Channel.{widthOf}
 use Rattle.description_judging.specs.Judging.{judgementOf}
 use Rattle.description_judging.specs.JudgingLaws.{passed-sound}
 use Rattle.description_writing.specs.Write.{putJudged, putIf}
@@ -19,7 +18,7 @@ enum-told : tie.Need-enum-told
 enum-told c = search needs
 
 -- the judgement is the definition's
-judged : (m : tie.After-judge) → judgementOf (widthOf (m .before .before .args .format)) (m .before .before .args .description) ≡ m .judge .result
+judged : (m : tie.After-judge) → judgementOf (m .before .before .args .format) (m .before .before .args .description) ≡ m .judge .result
 judged m = sym (m .judge .ensures)
 
 returns : tie.Need-returns

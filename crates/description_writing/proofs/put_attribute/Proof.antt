@@ -45,10 +45,10 @@ module _ (c : tie.After-struct-told) where
   above = ap₂ _-ℤ_ (toZ-ofZ w32 (start .args .attribute .number) (search needs)) (toZ-ofZ w32 (start .args .least) (start .fits .least) ∙ start .pre .1)
 
 sub-number : tie.Need-sub-number
-sub-number c = rw (above c) (above-fits _ _ _ (fitting c) .0)
+sub-number c = rw (above c) (above-fits (start c .args .format) _ _ (fitting c) .0)
 
 cast-number : tie.Need-cast-number
-cast-number c = let f = above-fits _ _ _ (fitting c) in rw (above c, toZ-ofZ w32 _ (f .0)) (f .1)
+cast-number c = let f = above-fits (start c .args .format) _ _ (fitting c) in rw (above c, toZ-ofZ w32 _ (f .0)) (f .1)
 
 -- its digits are the attribute
 module _ (c : tie.After-struct-told) (signed : Bool) (e : start c .args .least ≡ valueOf (width c) signed 0) where
@@ -59,7 +59,7 @@ module _ (c : tie.After-struct-told) (signed : Bool) (e : start c .args .least �
       let v = start c .args .attribute .number in
       ap natAbs
       (ap (λ z. toZ w32 (ofZ w32 z)) (above c)
-      ∙ toZ-ofZ w32 _ (above-fits _ _ _ (fitting c) .0)
+      ∙ toZ-ofZ w32 _ (above-fits (start c .args .format) _ _ (fitting c) .0)
       ∙ ap (λ z. v -ℤ z) (sym (start c .pre .1) ∙ e)
       ∙ stored-above (width c) signed v)
 

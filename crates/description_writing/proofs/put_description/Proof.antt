@@ -49,7 +49,7 @@ module _ (n : tie.After-put-number Inv-loop μ-loop) where
   start = n .before .before .before .before .before
 
   laid : Laid (start .args .out .now) (start .args .start) (digits 2 (binary (map (λ d. d .included) (start .args .t3 .channels)))) (n .put-number .last .0) (n .put-number .result)
-  unfolding widthOf encodeDescription
+  unfolding encodeDescription
   laid = number-laid 2 _ _ _ (room-first _ _ (start .pre .1)) (rw (n .before .inclusion .ensures) at (n .put-number .ensures))
 
 loop-holds : tie.Need-loop-holds Inv-loop μ-loop

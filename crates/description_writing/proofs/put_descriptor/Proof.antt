@@ -98,7 +98,7 @@ abbrev from-scaling : tie.After-put-attribute → tie.After-put-attribute-arg
 from-scaling c = c .before
 
 scaling-laid : (c : tie.After-put-attribute) → Laying (start (from-scaling c)) (to-scaling (start (from-scaling c))) (c .put-attribute .last .0) (c .put-attribute .result)
-unfolding widthOf valueOf offset
+unfolding valueOf offset
 scaling-laid c = attribute-laid (byte-laid (from-scaling c)) 2 false refl _ (c .put-attribute .ensures)
 
 abbrev from-minimum : tie.After-put-attribute2 → tie.After-put-attribute-arg
@@ -129,7 +129,7 @@ deviation-laid c = attribute-laid (mean-laid (c .before .before .before .before)
 -- ---- So each finds its room
 
 put-attribute-requires : tie.Need-put-attribute-requires
-unfolding widthOf valueOf offset
+unfolding valueOf offset
 put-attribute-requires c κs = attribute-ready (byte-laid c) 2 false refl _ (each (start c) .scaling) (room-scaling (start c))
 
 put-attribute-requires-2 : tie.Need-put-attribute-requires-2

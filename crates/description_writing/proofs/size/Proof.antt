@@ -25,7 +25,6 @@ sixteen : (s : tie.Start Inv-loop μ-loop) → length (s .args .t1 .channels) �
 sixteen s = simp length-map at (s .good .0 .1 .1 .0 .1 .0 .1)
 
 width-small : (format : Format) → widthOf format ≤ 2
-unfolding widthOf
 width-small Full = omega arith
 width-small Compact = omega arith
 

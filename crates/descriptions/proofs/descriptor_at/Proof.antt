@@ -37,18 +37,18 @@ module _ (c : tie.After-value-of) where
   room = start .pre .0
 
 attribute-at-requires : tie.Need-attribute-at-requires
-unfolding descriptorSize attributesSize widthOf valueOf offset
+unfolding descriptorSize attributesSize valueOf offset
 attribute-at-requires c κs = ((false, refl), omega (arith, room c))
 
 attribute-at-requires-2 : tie.Need-attribute-at-requires-2
-unfolding descriptorSize attributesSize widthOf
+unfolding descriptorSize attributesSize
 attribute-at-requires-2 c κs =
     let a = c .before in
     let v = a .before in
     ((start v .args .signed, least v), omega (arith, room v, a .attribute-at .ensures .1))
 
 attribute-at-requires-3 : tie.Need-attribute-at-requires-3
-unfolding descriptorSize attributesSize widthOf
+unfolding descriptorSize attributesSize
 attribute-at-requires-3 c κs =
     let b = c .before in
     let a = b .before .before in
@@ -56,7 +56,7 @@ attribute-at-requires-3 c κs =
     ((start v .args .signed, least v), omega (arith, room v, a .attribute-at .ensures .1, b .attribute-at2 .ensures .1))
 
 attribute-at-requires-4 : tie.Need-attribute-at-requires-4
-unfolding descriptorSize attributesSize widthOf
+unfolding descriptorSize attributesSize
 attribute-at-requires-4 c κs =
     let d = c .before in
     let b = d .before .before in
@@ -65,7 +65,7 @@ attribute-at-requires-4 c κs =
     ((start v .args .signed, least v), omega (arith, room v, a .attribute-at .ensures .1, b .attribute-at2 .ensures .1, d .attribute-at3 .ensures .1))
 
 attribute-at-requires-5 : tie.Need-attribute-at-requires-5
-unfolding descriptorSize attributesSize widthOf valueOf offset
+unfolding descriptorSize attributesSize valueOf offset
 attribute-at-requires-5 c κs =
     let e = c .before in
     let d = e .before .before in
@@ -75,7 +75,7 @@ attribute-at-requires-5 c κs =
     ((false, refl), omega (arith, room v, a .attribute-at .ensures .1, b .attribute-at2 .ensures .1, d .attribute-at3 .ensures .1, e .attribute-at4 .ensures .1))
 
 returns : tie.Need-returns
-unfolding descriptorSize attributesSize widthOf valueOf offset
+unfolding descriptorSize attributesSize valueOf offset
 returns c channel sign =
     let f = c .before in
     let e = f .before .before in

@@ -1,6 +1,5 @@
 -- `descriptions::descriptor_size` meets its contract: each bit counts as many bytes as its attribute has.
 use borrow.Author.Needs.{needs}
-use Rattle.channels.specs.Channel.{widthOf}
 use Rattle.descriptions.proofs.Measuring.{size-full, size-compact}
 use Rattle.descriptions.proofs.descriptor_size.Statement.{statement}
 use Rattle.descriptions.proofs.descriptor_size.Tie as tie
@@ -42,11 +41,9 @@ add-result-4 : tie.Need-add-result-4
 add-result-4 c = search needs
 
 returns : tie.Need-returns
-unfolding widthOf
 returns c = rw (c .enum-told .given .1) (size-full _)
 
 returns-2 : tie.Need-returns-2
-unfolding widthOf
 returns-2 c = rw (c .enum-told2 .given .1) (size-compact _)
 
 pub descriptor-size-spec : {M : Type 1} → statement M

@@ -11,7 +11,7 @@ no-inclusion-requires c κs = search needs
 
 returns : tie.Need-returns
 unfolding behind
-returns c w = rw (c .no-inclusion .ensures) (description-out w _ _ (omega arith))
+returns c format = rw (c .no-inclusion .ensures) (description-out format _ _ (omega arith))
 
 shared-slice-read-first : tie.Need-shared-slice-read-first
 shared-slice-read-first c = search needs
@@ -21,7 +21,7 @@ no-inclusion-requires-2 c κs = search needs
 
 returns-2 : tie.Need-returns-2
 unfolding behind
-returns-2 c w = rw (c .no-inclusion2 .ensures) (description-bad w _ _ (omega arith) (omega arith))
+returns-2 c format = rw (c .no-inclusion2 .ensures) (description-bad format _ _ (omega arith) (omega arith))
 
 sub-if3 : tie.Need-sub-if3
 sub-if3 c = search needs
@@ -31,10 +31,10 @@ no-inclusion-requires-3 c κs = search needs
 
 returns-3 : tie.Need-returns-3
 unfolding behind
-returns-3 c w =
+returns-3 c format =
     let e = c .before .before in
     let a = e .before .before .before .before .args in
-    rw (c .no-inclusion3 .ensures) (description-cut w _ _ (omega arith) (omega arith) (e .before .shared-slice-known2 .given (a .start) .fits) (omega arith))
+    rw (c .no-inclusion3 .ensures) (description-cut format _ _ (omega arith) (omega arith) (e .before .shared-slice-known2 .given (a .start) .fits) (omega arith))
 
 add-t4 : tie.Need-add-t4
 add-t4 c = search needs
@@ -50,10 +50,10 @@ pair-requires c κs = search needs
 
 returns-4 : tie.Need-returns-4
 unfolding behind
-returns-4 c w =
+returns-4 c format =
     let e = c .before .before .before in
     let a = e .before .before .before .before .args in
-    rw (c .pair .ensures) (description-channels w _ _ (omega arith) (omega arith) (e .before .shared-slice-known2 .given (a .start) .fits) (omega arith))
+    rw (c .pair .ensures) (description-channels format _ _ (omega arith) (omega arith) (e .before .shared-slice-known2 .given (a .start) .fits) (omega arith))
 
 pub inclusion-at-spec : {M : Type 1} → statement M
 inclusion-at-spec =

@@ -11,7 +11,6 @@ use lib.ListN.{replicate, set}
 use Rattle.formats.specs.Reader.{readAt}
 use Rattle.formats.specs.Told.{told-done}
 use Rattle.channels.specs.BitLaws.{Moved, moved-none, moved-first, moved-on, moved-out}
-use Rattle.channels.specs.Channel.{widthOf}
 use Rattle.channels.specs.declared.Descriptor.{Descriptor}
 use Rattle.channels.specs.Descriptors.{absent}
 use Rattle.descriptions.specs.Description.{includes, description}
@@ -23,7 +22,7 @@ use Rattle.descriptions.proofs.measure.Tie as tie
 
 abbrev Inv-loop : tie.InvT-loop
 Inv-loop s start format first included₀ stored₀ bits₀ at₀ channel₀ included stored bits at channel =
-    (channel ≤ 16) × (ds : List Descriptor) × Gone (widthOf format) bits₀ s first ds included stored channel at × Moved bits₀ bits channel
+    (channel ≤ 16) × (ds : List Descriptor) × Gone format bits₀ s first ds included stored channel at × Moved bits₀ bits channel
 
 abbrev μ-loop : tie.MeasureT-loop
 μ-loop s start format first included₀ stored₀ bits₀ at₀ channel₀ included stored bits at channel = 16 - channel
@@ -36,8 +35,8 @@ module _ (k : tie.After-outcome Inv-loop μ-loop) where
   abbrev start : tie.Start Inv-loop μ-loop
   start = inclusion .before .before
 
-  whole : readAt (description (widthOf (start .args .format))) (start .args .s .now) (start .args .start)
-      ≡ readAt (channelsFrom (widthOf (start .args .format)) (inclusion .inclusion-at .result .bits)) (start .args .s .now) (k .outcome .given .0 .0)
+  whole : readAt (description (start .args .format)) (start .args .s .now) (start .args .start)
+      ≡ readAt (channelsFrom (start .args .format) (inclusion .inclusion-at .result .bits)) (start .args .s .now) (k .outcome .given .0 .0)
   whole = behind-done _ (k .outcome .given .1) (inclusion .inclusion-at .ensures _)
 
 -- a channel that is included
@@ -64,7 +63,7 @@ returns : tie.Need-returns Inv-loop μ-loop
 unfolding measured
 returns c =
     let m = c .before in
-    c .unmeasured .ensures ∙ ap undescribed (behind-failed _ (m .enum-told .given .1) (m .before .before .inclusion-at .ensures _))
+    c .unmeasured .ensures ∙ ap undescribed (behind-failed _ _ (m .enum-told .given .1) (m .before .before .inclusion-at .ensures _))
 
 loop-holds : tie.Need-loop-holds Inv-loop μ-loop
 loop-holds c = (omega arith, replicate 16 absent, gone-none _ _ _ _, moved-none _ (search needs))
@@ -92,7 +91,7 @@ returns-2 c =
     let t = d .before .before .before in
     let l = t .before in
     let e = gone-failed _ _ _ _ _ _ _ _ _ (l .loop .inv .2) (t .loop-test .taken) (included d) (m .enum-told2 .given .1) (d .descriptor-end .ensures _) in
-    c .unmeasured2 .ensures ∙ ap undescribed (e ∙ ap described (sym (whole (l .before .before))))
+    c .unmeasured2 .ensures ∙ ap undescribed (e ∙ ap (described _) (sym (whole (l .before .before))))
 
 shared-slice-read-byte : tie.Need-shared-slice-read-byte Inv-loop μ-loop
 unfolding descriptorSize
@@ -144,7 +143,7 @@ returns-3 : tie.Need-returns-3 Inv-loop μ-loop
 unfolding measured
 returns-3 c =
     let l = c .before in
-    ap undescribed (gone-all _ _ _ _ _ _ _ _ _ (l .loop .inv .2) (c .loop-test .left) ∙ ap described (sym (whole (l .before .before))))
+    ap undescribed (gone-all _ _ _ _ _ _ _ _ _ (l .loop .inv .2) (c .loop-test .left) ∙ ap (described _) (sym (whole (l .before .before))))
 
 returns-4 : tie.Need-returns-4 Inv-loop μ-loop
 unfolding measured includes
@@ -152,7 +151,7 @@ returns-4 c =
     let t = c .before .before .before in
     let l = t .before in
     let g = gone-out _ _ _ _ (16 - l .loop .channel) _ _ _ _ _ (omega (arith, t .loop-test .taken)) (moved-out (l .loop .inv .3) (c .if2 .taken)) (l .loop .inv .2) in
-    ap undescribed (gone-all _ _ _ _ _ _ _ _ _ g (omega arith) ∙ ap described (sym (whole (l .before .before))))
+    ap undescribed (gone-all _ _ _ _ _ _ _ _ _ g (omega arith) ∙ ap (described _) (sym (whole (l .before .before))))
 
 pub measure-spec : {M : Type 1} → statement M
 measure-spec =

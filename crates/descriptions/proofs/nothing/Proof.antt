@@ -15,7 +15,7 @@ read-requires c κs = search needs
 
 returns : tie.Need-returns
 unfolding described
-returns c = ap (λ r. r .description) (c .before .read .ensures ∙ ap described (description-out _ _ _ (omega arith)))
+returns c = ap (λ r. r .description) (c .before .read .ensures ∙ ap (described _) (description-out _ _ _ (omega arith)))
 
 pub nothing-spec : {M : Type 1} → statement M
 nothing-spec = tie.close (tie.spec slice-aggregate-read read-requires returns)

@@ -19,7 +19,7 @@ use Rattle.descriptions.proofs.read.Tie as tie
 
 abbrev Inv-loop : tie.InvT-loop
 Inv-loop s start format descriptors₀ included₀ stored₀ outcome₀ first signs₀ bits₀ at₀ channel₀ descriptors included stored outcome signs bits at channel =
-    (channel ≤ 16) × Gone (widthOf format) bits₀ s first descriptors included stored channel at × (outcome ≡ Done at) × Moved bits₀ bits channel × SignsLeft signs channel
+    (channel ≤ 16) × Gone format bits₀ s first descriptors included stored channel at × (outcome ≡ Done at) × Moved bits₀ bits channel × SignsLeft signs channel
 
 abbrev μ-loop : tie.MeasureT-loop
 μ-loop s start format descriptors₀ included₀ stored₀ outcome₀ first signs₀ bits₀ at₀ channel₀ descriptors included stored outcome signs bits at channel =
@@ -33,8 +33,8 @@ module _ (k : tie.After-outcome Inv-loop μ-loop) where
   abbrev start : tie.Start Inv-loop μ-loop
   start = inclusion .before .before
 
-  whole : readAt (description (widthOf (start .args .format))) (start .args .s .now) (start .args .start)
-      ≡ readAt (channelsFrom (widthOf (start .args .format)) (inclusion .inclusion-at .result .bits)) (start .args .s .now) (k .outcome .given .0 .0)
+  whole : readAt (description (start .args .format)) (start .args .s .now) (start .args .start)
+      ≡ readAt (channelsFrom (start .args .format) (inclusion .inclusion-at .result .bits)) (start .args .s .now) (k .outcome .given .0 .0)
   whole = behind-done _ (k .outcome .given .1) (inclusion .inclusion-at .ensures _)
 
 -- a channel that is included
@@ -143,7 +143,7 @@ enum-told-2 c = search needs
 returns : tie.Need-returns Inv-loop μ-loop
 returns c =
     let l = c .before in
-    rw (l .loop .inv .2) (gone-all _ _ _ _ _ _ _ _ _ (l .loop .inv .1) (c .loop-test .left) ∙ ap described (sym (whole (l .before .before .before))))
+    rw (l .loop .inv .2) (gone-all _ _ _ _ _ _ _ _ _ (l .loop .inv .1) (c .loop-test .left) ∙ ap (described _) (sym (whole (l .before .before .before))))
 
 returns-2 : tie.Need-returns-2 Inv-loop μ-loop
 unfolding nothing
@@ -152,7 +152,7 @@ returns-2 c =
     let t = d .before .before .before in
     let l = t .before in
     gone-failed _ _ _ _ _ _ _ _ _ (l .loop .inv .1) (t .loop-test .taken) (included d) (c .enum-told .given .1) (d .descriptor-end .ensures _)
-    ∙ ap described (sym (whole (l .before .before .before)))
+    ∙ ap (described _) (sym (whole (l .before .before .before)))
 
 returns-3 : tie.Need-returns-3 Inv-loop μ-loop
 unfolding includes
@@ -160,11 +160,11 @@ returns-3 c =
     let t = c .before .before .before in
     let l = t .before in
     let g = gone-out _ _ _ _ (16 - l .loop .channel) _ _ _ _ _ (omega (arith, t .loop-test .taken)) (moved-out (l .loop .inv .3) (c .if2 .taken)) (l .loop .inv .1) in
-    rw (l .loop .inv .2) (gone-all _ _ _ _ _ _ _ _ _ g (omega arith) ∙ ap described (sym (whole (l .before .before .before))))
+    rw (l .loop .inv .2) (gone-all _ _ _ _ _ _ _ _ _ g (omega arith) ∙ ap (described _) (sym (whole (l .before .before .before))))
 
 returns-4 : tie.Need-returns-4 Inv-loop μ-loop
 unfolding nothing
-returns-4 c = behind-failed _ (c .enum-told2 .given .1) (c .before .before .inclusion-at .ensures _)
+returns-4 c = behind-failed _ _ (c .enum-told2 .given .1) (c .before .before .inclusion-at .ensures _)
 
 pub read-spec : {M : Type 1} → statement M
 read-spec =

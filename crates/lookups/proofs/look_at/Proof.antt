@@ -9,7 +9,6 @@ use Rattle.formats.specs.Sight.{seen}
 use Rattle.formats.specs.SightLaws.{seen-within}
 use Rattle.formats.specs.Told.{told, once-told}
 use Rattle.formats.specs.declared.Outcome.the-variants.{Failed}
-use Rattle.channels.specs.Channel.{widthOf}
 use Rattle.points.specs.Points.{point}
 use Rattle.lookups.specs.LookupLaws.{point-refused, point-there, failed-seen}
 use Rattle.lookups.proofs.look_at.Statement.{statement}
@@ -23,7 +22,6 @@ enum-known-outcome c = search needs
 
 -- how the point is judged is how reading it ends
 judged : (c : tie.After-judge) → let a = c .before .before .args in c .judge .result ≡ told (readAt (point 2 (a .stored)) (a .bytes .now) (a .start))
-unfolding widthOf
 judged c = let a = c .before .before .args in c .judge .ensures ∙ once-told (point 2 (a .stored)) (a .bytes .now) (a .start)
 
 -- where it failed
@@ -65,7 +63,6 @@ add-t13 : tie.Need-add-t13
 add-t13 c = search needs
 
 returns-2 : tie.Need-returns-2
-unfolding widthOf
 returns-2 c =
     let j = c .before .before .before in
     let t = point-there _ _ _ (sym (judged j) ∙ c .before .enum-told .given .1) in

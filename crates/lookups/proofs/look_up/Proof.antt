@@ -7,7 +7,6 @@ use Rattle.formats.specs.Bytes.{Bytes}
 use Rattle.formats.specs.Reader.{readAt}
 use Rattle.formats.specs.Told.{told}
 use Rattle.formats.specs.declared.Outcome.the-variants.{Done, Failed}
-use Rattle.channels.specs.Channel.{widthOf}
 use Rattle.record_fronts.specs.Front as meant
 use Rattle.record_fronts.specs.Fronted.{frontIn}
 use Rattle.lookups.specs.LookupLaws.{failed-seen}
@@ -94,7 +93,6 @@ look-at-requires : tie.Need-look-at-requires
 look-at-requires c κs = let k = known (c .before) in points-within _ (ended k) _ (front (headed k))
 
 returns-3 : tie.Need-returns-3
-unfolding widthOf
 returns-3 c =
     let w = c .before .before in
     let k = known w in

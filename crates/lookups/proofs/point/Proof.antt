@@ -5,7 +5,6 @@ use Prim.Native.Nat.{_+_, _*_, _<_}
 use native.Mathlib.Omega.{arith}
 use borrow.Author.Needs.{needs}
 use Rattle.formats.specs.Reader.{readAt}
-use Rattle.channels.specs.Channel.{widthOf}
 use Rattle.record_fronts.specs.Front as meant
 use Rattle.record_fronts.specs.Fronted.{frontIn}
 use Rattle.lookups.proofs.Looking.{start-fits, Shown, shown-there, shown-none, counted-within}
@@ -51,7 +50,6 @@ places-requires c κs = search needs
 shown : (c : tie.Joined1) → let h = c .before .before .before in
     let a = h .before .before .args in
     Shown (a .bytes .now) (a .index) (c .if1 .included) (c .if1 .stored) (c .if1 .start)
-unfolding widthOf
 shown c =
     let h = c .before .before .before in
     ⊎-elim
@@ -60,7 +58,6 @@ shown c =
     (c .if1 .came)
 
 returns : tie.Need-returns
-unfolding widthOf
 returns c = c .places .ensures ∙ shown (c .before)
 
 pub point-spec : {M : Type 1} → statement M

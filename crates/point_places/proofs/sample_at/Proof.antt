@@ -14,7 +14,9 @@ use Rattle.point_places.proofs.sample_at.Tie as tie
 
 returns : tie.Need-returns
 unfolding sampled
-returns c = sym (ap sampled (sample-none _ _ _ _ (one-or-two _ .0) (omega arith)))
+returns c =
+    let a = c .before .before .args in
+    sym (ap sampled (sample-none (widthOf (a .format)) (a .bytes .now) (a .at) (a .channel) (one-or-two (a .format) .0) (omega arith)))
 
 shared-slice-read-state-of : tie.Need-shared-slice-read-state-of
 shared-slice-read-state-of c = search needs

@@ -16,7 +16,9 @@ returns : tie.Need-returns
 returns c = search needs
 
 returns-2 : tie.Need-returns-2
-returns-2 c = sym (none-told _ (one-or-two _ .0) _ _ _ _ (c .if2 .taken))
+returns-2 c =
+    let a = c .before .before .before .args in
+    sym (none-told (widthOf (a .format)) (one-or-two (a .format) .0) (a .bytes .now) (a .start) (a .stored) (a .count) (c .if2 .taken))
 
 width-from-requires : tie.Need-width-from-requires
 width-from-requires c κs = search needs
@@ -26,10 +28,14 @@ unfolding width channels
 wide c = c .width-from .ensures .0
 
 returns-3 : tie.Need-returns-3
-returns-3 c = sym (empty-told _ (one-or-two _ .0) _ _ _ _ (sym (wide (c .before)) ∙ c .if3 .taken))
+returns-3 c =
+    let a = c .before .before .before .before .before .args in
+    sym (empty-told (widthOf (a .format)) (one-or-two (a .format) .0) (a .bytes .now) (a .start) (a .stored) (a .count) (sym (wide (c .before)) ∙ c .if3 .taken))
 
 returns-4 : tie.Need-returns-4
-returns-4 c = sym (past-told _ (one-or-two _ .0) _ _ (omega arith) _ _ (omega arith) (omega (arith, wide (c .before))))
+returns-4 c =
+    let a = c .before .before .before .before .before .args in
+    sym (past-told (widthOf (a .format)) (one-or-two (a .format) .0) (a .bytes .now) (a .start) (omega arith) (a .stored) (a .count) (omega arith) (omega (arith, wide (c .before))))
 
 pub judge-spec : {M : Type 1} → statement M
 judge-spec =

@@ -52,7 +52,6 @@ module _ (t : tie.At-loop Inv-loop μ-loop) where
   sixteen = search needs
 
   wide : measured .width .result ≡ width 2 (start .args .t3)
-  unfolding widthOf
   wide = measured .width .ensures .0
 
   step-is : t .before .before .step .result ≡ step (start .args .order) (size (start .args .t3))
@@ -94,7 +93,6 @@ sample-size-requires c κs = search needs
 
 -- how many bytes its number has
 size-of : {r : ℕ} (channel : ℕ) → (r ≡ sampleSize (widthOf Full) channel) × (r ≤ 2) → r ≡ sampleSize 2 channel
-unfolding widthOf
 size-of channel h = h .0
 
 size-is : (c : tie.After-sample-size Inv-loop μ-loop) → c .sample-size .result ≡ sampleSize 2 (turn (c .before .before .before .before) .loop .channel)

@@ -7,7 +7,6 @@ use mir.ValLaws.{toZ-ofZ}
 use lib.ListN.{length}
 use Rattle.formats.specs.Number as reader
 use Rattle.formats.specs.Reader.{ok, readAt}
-use Rattle.channels.specs.Channel.{widthOf}
 use Rattle.stored_numbers.specs.NumberLaws.{part-read}
 use Rattle.points.specs.SampleLaws.{switch-size, wide-size, wide-ok}
 use Rattle.record_columns.proofs.Filling.{number-is, state-read}
@@ -34,7 +33,6 @@ module _ (c : tie.After-width) where
   start = c .before .before .before
 
   two : c .width .result ≡ 2
-  unfolding widthOf
   two = c .width .ensures .0
 
   room : start .args .at + 2 ≤ length (start .args .bytes .now)
@@ -57,7 +55,6 @@ number-at-requires c κs = search needs
 
 -- the number that stands there
 number : (n : tie.After-number-at) → let a = start (n .before .before) .args in readAt (reader.number 2) (a .bytes .now) (a .at) ≡ ok (n .number-at .result) (a .at + 2)
-unfolding widthOf
 number n = let z = n .before .before in part-read 2 _ _ (room z) (z .width .result) (two z) (n .number-at .ensures)
 
 is-signed-requires : tie.Need-is-signed-requires
@@ -72,7 +69,6 @@ returns c =
     rw (toZ-ofZ w32 (c .state .result) (search needs), c .state .ensures) (state-read _ _ _ (t .if1 .taken) (omega (arith, there t)))
 
 returns-2 : tie.Need-returns-2
-unfolding widthOf
 returns-2 c =
     let g = c .before in
     let n = g .before in

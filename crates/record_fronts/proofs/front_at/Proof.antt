@@ -3,7 +3,6 @@ use mathlib.Core.Path.{_≡_, sym, ap, _∙_}
 use Rattle.formats.specs.Reader.{readAt}
 use Rattle.formats.specs.Told.{told}
 use Rattle.formats.specs.declared.Outcome.the-variants.{Done}
-use Rattle.channels.specs.Channel.{widthOf}
 use Rattle.identifications.specs.Identification.{identification}
 use Rattle.record_fronts.specs.Fronted.{unfronted, fronted, frontBehind}
 use Rattle.record_fronts.specs.FrontLaws.{fronted-failed, front-done, front-failed, channelled-is}
@@ -41,7 +40,6 @@ front-behind-requires : tie.Need-front-behind-requires
 front-behind-requires c κs = search needs
 
 returns-2 : tie.Need-returns-2
-unfolding widthOf
 returns-2 c =
     let m = c .before in
     c .front-behind .ensures ∙ ap (frontBehind _) (m .measure .ensures) ∙ channelled-is _ _ ∙ sym (ap fronted (front-done _ _ (place (m .before .before))))

@@ -1,6 +1,5 @@
 -- `record_layouts::layout_behind` meets its contract: each part is looked for where the one before it ended well.
 use mathlib.Core.Path.{sym, ap, _∙_}
-use Rattle.channels.specs.Channel.{widthOf}
 use Rattle.record_layouts.specs.Layout.{noLayout, behind, layoutBehind}
 use borrow.Author.Needs.{needs}
 use Rattle.record_layouts.proofs.layout_behind.Statement.{statement}
@@ -35,7 +34,7 @@ no-layout-requires-2 : tie.Need-no-layout-requires-2
 no-layout-requires-2 c κs = search needs
 
 returns-2 : tie.Need-returns-2
-unfolding layoutBehind behind widthOf
+unfolding layoutBehind behind
 returns-2 c =
     let e = c .before in
     let j = e .before .before in
@@ -55,7 +54,7 @@ no-layout-requires-3 : tie.Need-no-layout-requires-3
 no-layout-requires-3 c κs = search needs
 
 returns-3 : tie.Need-returns-3
-unfolding layoutBehind behind widthOf
+unfolding layoutBehind behind
 returns-3 c =
     let e = c .before in
     let x = e .before .before in
@@ -67,7 +66,7 @@ returns-3 c =
     ∙ sym (rw (h .headed .given .1, sym (j .judge .ensures) ∙ p .passed .given .1, sym (x .extension-end .ensures) ∙ e .enum-told4 .given .1))
 
 returns-4 : tie.Need-returns-4
-unfolding layoutBehind behind widthOf
+unfolding layoutBehind behind
 returns-4 c =
     let x = c .before .before in
     let p = x .before .before in

@@ -5,7 +5,6 @@ use Prim.Native.Nat.{_+_, _-_, _*_, _/_, _≤_}
 use native.Mathlib.Omega.{arith}
 use lib.ListN.{length}
 use Rattle.formats.specs.Reader.{readAt}
-use Rattle.channels.specs.Channel.{widthOf}
 use Rattle.record_fronts.specs.Front as meant
 use Rattle.record_fronts.specs.Fronted.{frontIn}
 use Rattle.record_layouts.specs.Layout.{layoutBehind, layoutAt}
@@ -71,7 +70,6 @@ shown c =
     (c .if1 .came)
 
 returns : tie.Need-returns
-unfolding widthOf
 returns c = c .places .ensures ∙ shown (c .before)
 
 pub point-spec : {M : Type 1} → statement M

@@ -4,7 +4,6 @@ use native.Mathlib.Omega.{arith}
 use Rattle.formats.specs.Reader.{readAt}
 use Rattle.formats.specs.Told.{told}
 use Rattle.formats.specs.declared.Outcome.the-variants.{Done}
-use Rattle.channels.specs.Channel.{widthOf}
 use Rattle.records.specs.Record.{fullRecord}
 use Rattle.identifications.specs.Identification.{identification}
 use Rattle.record_fronts.specs.Front.{channelled}
@@ -26,7 +25,7 @@ front-behind-requires c κs = search needs
 
 -- the front behind the identifier and the version
 heading : (c : tie.After-front-behind) → let a = c .before .before .before .before .before .before .args in c .front-behind .result ≡ fronted (readAt channelled (a .bytes .now) (a .at))
-unfolding widthOf measured
+unfolding measured
 heading c =
     let a = c .before .before .before .before .before .before .args in
     c .front-behind .ensures
@@ -62,7 +61,6 @@ enum-told-2 : tie.Need-enum-told-2
 enum-told-2 c = search needs
 
 returns-2 : tie.Need-returns-2
-unfolding widthOf
 returns-2 c place =
     let v = c .before .before in
     let r = v .before .before .before .before .before .before in

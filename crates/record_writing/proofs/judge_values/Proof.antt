@@ -2,7 +2,6 @@
 use mathlib.Core.Path.{_≡_, sym, _∙_}
 use Prim.Native.Nat.{_<_}
 use native.Mathlib.Omega.{arith}
-use Rattle.channels.specs.Channel.{widthOf}
 use Rattle.values.specs.Values.{judgementOf}
 use Rattle.record_writing.specs.WriteLaws.{at-count, at-values, at-extended, at-last}
 use borrow.Author.Needs.{needs}
@@ -24,7 +23,6 @@ module _ (c : tie.After-judge) where
   counted = omega (arith, c .before .if1 .left)
 
   judged : judgementOf 2 (start .args .stored) (start .args .order) (start .args .count) (start .args .values .now) ≡ c .judge .result
-  unfolding widthOf
   judged = sym (c .judge .ensures)
 
 enum-told : tie.Need-enum-told

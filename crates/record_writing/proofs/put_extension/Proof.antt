@@ -8,7 +8,6 @@ use lib.ListN.{length}
 use borrow.Author.Tests.{not-true, not-false}
 use Rattle.formats.specs.Laid.{Room, laid-none, laid-more, room-first, room-rest, within-laid}
 use Rattle.formats.specs.Number.{digits}
-use Rattle.channels.specs.Channel.{widthOf}
 use Rattle.stored_numbers.specs.NumberLaws.{number-laid}
 use Rattle.records.specs.Record.{encodeExtended}
 use Rattle.record_writing.proofs.Laying.{wanted-room, wanted-laid}
@@ -47,7 +46,6 @@ same-length : tie.Need-same-length
 same-length c = search needs
 
 returns-2 : tie.Need-returns-2
-unfolding widthOf
 returns-2 c =
     let q = c .before .before in
     let p = q .before .before .before .before in

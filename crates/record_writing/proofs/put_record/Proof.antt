@@ -4,7 +4,6 @@ use mathlib.Core.List.{List, _++_, flatMap}
 use mathlib.Core.Option.{some, none}
 use Prim.Native.Nat.{ℕ}
 use Rattle.formats.specs.Laid.{Room, Laid, laid-more, room-first, room-rest}
-use Rattle.channels.specs.Channel.{widthOf}
 use Rattle.points.specs.Points.{encodePoint}
 use Rattle.orders.specs.Orders.{size, pointsOf}
 use Rattle.values.specs.ValueLaws.{put-laid}
@@ -47,7 +46,6 @@ module _ (c : tie.After-put) where
   s = start fronted
 
   points : Laid (fronted .put-front .last .0) (fronted .put-front .result) (row s) (c .put .last .0) (c .put .result)
-  unfolding widthOf
   points = put-laid 2 (s .args .stored) (s .args .order) (s .args .count) (s .args .values .now) (s .pre .0 .fitting) (room-first _ _ (behind fronted)) (c .put .ensures)
 
 put-extension-requires : tie.Need-put-extension-requires

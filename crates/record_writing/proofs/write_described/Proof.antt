@@ -10,9 +10,9 @@ use borrow.Author.Tests.{le-leb, lt-leb}
 use Rattle.formats.specs.Lent.{writing}
 use Rattle.refusals.specs.declared.Judgement.{Judgement}
 use Rattle.refusals.specs.declared.Judgement.the-variants.{Passed}
-use Rattle.channels.specs.Channel.{widthOf}
 use Rattle.points.specs.Points.{width}
-use Rattle.records.specs.Record.{Record, stored, encodeExtended}
+use Rattle.channels.specs.Descriptors.{stored}
+use Rattle.records.specs.Record.{Record, encodeExtended}
 use Rattle.record_writing.specs.Write.{putWhere, NumbersPass}
 use Rattle.record_writing.specs.Parts.{recordBytes, writeDescribed}
 use Rattle.record_writing.specs.WriteLaws.{numbers-pass, bytes-length}
@@ -76,7 +76,6 @@ module _ (c : tie.After-record-size) where
   extra = length (encodeExtended (cond (asked from .args .wanted) (some (asked from .args .extended .now)) none))
 
   size : c .record-size .result ≡ length (meant from)
-  unfolding widthOf
   size =
       let a = asked from .args in
       c .record-size .ensures

@@ -3,8 +3,8 @@ use mathlib.Core.Path.{_≡_, _∙_}
 use Prim.Native.Nat.{_≤_}
 use lib.ListN.{replicate, length}
 use Rattle.formats.specs.Lent.{writing}
-use Rattle.channels.specs.Channel.{widthOf}
 use Rattle.descriptions.specs.Description.{encodeDescription}
+use Rattle.channels.specs.declared.Format.the-variants.{Full}
 use Rattle.description_writing.specs.Write.{putIf}
 use Rattle.descriptions.specs.SizeLaws.{description-size}
 use Rattle.description_writing.specs.AsideLaws.{aside-done, aside-refused}
@@ -25,8 +25,7 @@ module _ (m : tie.After-put) where
   abbrev start : tie.Start
   start = m .before .before .before .before
 
-  aside : writing (m .put .result) (m .put .last .0) ≡ putIf 2 (start .args .description) (replicate 178 0) 0
-  unfolding widthOf
+  aside : writing (m .put .result) (m .put .last .0) ≡ putIf Full (start .args .description) (replicate 178 0) 0
   aside = m .put .ensures
 
   fits : length (encodeDescription 2 (start .args .description)) ≤ 178
@@ -42,7 +41,7 @@ part-described-start : tie.Need-part-described-start
 part-described-start c = search needs
 
 part-described-end : tie.Need-part-described-end
-part-described-end c = let e = c .before .before in let m = e .before .before .before in aside-done 2 _ _ _ _ (aside m) (fits m) (e .end .given .1) .1
+part-described-end c = let e = c .before .before in let m = e .before .before .before in aside-done Full _ _ _ _ (aside m) (fits m) (e .end .given .1) .1
 
 stored-channels-requires : tie.Need-stored-channels-requires
 stored-channels-requires c κs = search needs
@@ -51,7 +50,7 @@ write-described-requires : tie.Need-write-described-requires
 write-described-requires c κs =
     let e = c .before .before .before .before .before in
     let m = e .before .before .before in
-    rw (aside-done 2 _ _ _ _ (aside m) (fits m) (e .end .given .1) .2) (fits m)
+    rw (aside-done Full _ _ _ _ (aside m) (fits m) (e .end .given .1) .2) (fits m)
 
 enum-known-refusal : tie.Need-enum-known-refusal
 enum-known-refusal c = search needs
@@ -65,7 +64,7 @@ returns c =
     let q = w .before .before in
     let e = q .before .before .before .before in
     let m = e .before .before .before in
-    let a = aside-done 2 _ _ _ _ (aside m) (fits m) (e .end .given .1) in
+    let a = aside-done Full _ _ _ _ (aside m) (fits m) (e .end .given .1) in
     w .write-described .ensures ∙ described-written _ _ _ _ _ _ _ (a .0) (a .2) (q .stored-channels .ensures)
 
 returns-2 : tie.Need-returns-2
@@ -73,7 +72,7 @@ returns-2 c =
     let e = c .before in
     let m = e .before .before .before in
     let a = start m .args in
-    refused-written (a .order) (a .description) (a .count) (a .values .now) (a .wanted) (a .extended .now) (a .out .now) (aside-refused 2 _ _ _ _ (aside m) (fits m) (e .refusal .given .1))
+    refused-written (a .order) (a .description) (a .count) (a .values .now) (a .wanted) (a .extended .now) (a .out .now) (aside-refused Full _ _ _ _ (aside m) (fits m) (e .refusal .given .1))
 
 pub write-in-spec : {M : Type 1} → statement M
 write-in-spec =

@@ -60,6 +60,9 @@ enum-told-10 c = search needs
 enum-told-11 : tie.Need-enum-told-11
 enum-told-11 c = search needs
 
+enum-told-12 : tie.Need-enum-told-12
+enum-told-12 c = search needs
+
 returns : tie.Need-returns
 returns c = rw (c .enum-told .given .1)
 
@@ -117,6 +120,9 @@ returns-18 c = rw (c .enum-told10 .given .1)
 returns-19 : tie.Need-returns-19
 returns-19 c = rw (c .enum-told11 .given .1)
 
+returns-20 : tie.Need-returns-20
+returns-20 c = rw (c .enum-told12 .given .1)
+
 pub place-spec : {M : Type 1} → statement M
 place-spec =
     tie.close
@@ -140,6 +146,7 @@ place-spec =
     enum-told-9
     enum-told-10
     enum-told-11
+    enum-told-12
     returns
     returns-2
     returns-3
@@ -158,4 +165,5 @@ place-spec =
     returns-16
     returns-17
     returns-18
-    returns-19)
+    returns-19
+    returns-20)

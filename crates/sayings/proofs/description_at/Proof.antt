@@ -2,7 +2,7 @@
 use mathlib.Core.List.{List}
 use mathlib.Core.Logic.{⊎-elim}
 use Prim.Native.Nat.{ℕ, _≤_, _<_, _-_}
-use mathlib.Core.Path.{_≡_}
+use mathlib.Core.Path.{_≡_, refl, _∙_}
 use lib.ListN.{length}
 use native.Mathlib.Omega.{arith}
 use Rattle.descriptions.specs.Read.{nothing}
@@ -21,7 +21,7 @@ empty line at from to w h =
     (lt-or-ge from (length line))
 
 abbrev Inv-loop : tie.InvT-loop
-Inv-loop line at description₀ span₀ description span = (span .from < span .to → span .to ≤ length line) × (Blank line at → span .to ≤ span .from) × (Blank line at → description ≡ nothing)
+Inv-loop line at description₀ span₀ description span = (span .from < span .to → span .to ≤ length line) × (Blank line at → span .to ≤ span .from) × (Blank line at → description ≡ description₀)
 
 abbrev μ-loop : tie.MeasureT-loop
 μ-loop line at description₀ span₀ description span = length line - span .from
@@ -33,7 +33,7 @@ next-requires : tie.Need-next-requires Inv-loop μ-loop
 next-requires c κs = search needs
 
 loop-holds : tie.Need-loop-holds Inv-loop μ-loop
-loop-holds c = (c .next .ensures .ends .inside, (λ h. empty _ _ _ _ (c .next .ensures) h), (λ h. c .before .nothing .ensures))
+loop-holds c = (c .next .ensures .ends .inside, (λ h. empty _ _ _ _ (c .next .ensures) h), (λ h. refl))
 
 part-requires : tie.Need-part-requires Inv-loop μ-loop
 part-requires c κs = search needs
@@ -62,7 +62,7 @@ loop-again c =
     (c .next2 .ensures .ends .inside, (λ h. absurd (idle h)), (λ h. absurd (idle h)))
 
 returns : tie.Need-returns Inv-loop μ-loop
-returns c = c .before .before .loop .inv .2
+returns c h = c .before .before .loop .inv .2 h ∙ c .before .before .before .before .nothing .ensures
 
 pub description-at-spec : {M : Type 1} → statement M
 description-at-spec =

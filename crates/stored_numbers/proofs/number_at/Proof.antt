@@ -39,14 +39,12 @@ enum-told : tie.Need-enum-told
 enum-told c = search needs
 
 shared-slice-read-pair : tie.Need-shared-slice-read-pair
-unfolding widthOf
 shared-slice-read-pair c = let e = c .before in omega (arith, room (e .before .before) (e .enum-told .given .1))
 
 add-pair : tie.Need-add-pair
 add-pair c = search needs
 
 shared-slice-read-pair-2 : tie.Need-shared-slice-read-pair-2
-unfolding widthOf
 shared-slice-read-pair-2 c = let e = c .before .before in omega (arith, room (e .before .before) (e .enum-told .given .1))
 
 pair-requires : tie.Need-pair-requires
@@ -56,14 +54,12 @@ enum-told-2 : tie.Need-enum-told-2
 enum-told-2 c = search needs
 
 shared-slice-read-pair-3 : tie.Need-shared-slice-read-pair-3
-unfolding widthOf
 shared-slice-read-pair-3 c = let e = c .before in omega (arith, room (e .before .before) (e .enum-told2 .given .1))
 
 pair-requires-2 : tie.Need-pair-requires-2
 pair-requires-2 c κs = search needs
 
 returns-3 : tie.Need-returns-3
-unfolding widthOf
 returns-3 c =
     let e = c .before .before .before in
     let q = e .enum-told .given .1 in
@@ -71,7 +67,6 @@ returns-3 c =
     c .pair .ensures ∙ sym (ap (λ f. numberAt (widthOf f) (a .bytes .now) (a .at)) q ∙ number-there 2 _ _ (room (e .before .before) q) ∙ value-two (a .bytes .now) (a .at))
 
 returns-4 : tie.Need-returns-4
-unfolding widthOf
 returns-4 c =
     let e = c .before .before in
     let q = e .enum-told2 .given .1 in

@@ -44,7 +44,6 @@ high-requires : tie.Need-high-requires
 high-requires c κs = search needs
 
 slice-write-out : tie.Need-slice-write-out
-unfolding widthOf
 slice-write-out c = let e = c .before in omega (arith, room (e .before .before) (e .enum-told .given .1))
 
 low-requires : tie.Need-low-requires
@@ -54,7 +53,6 @@ add-out : tie.Need-add-out
 add-out c = search needs
 
 slice-write-out-2 : tie.Need-slice-write-out-2
-unfolding widthOf
 slice-write-out-2 c = let e = c .before .before in simp length-set (omega (arith, room (e .before .before) (e .enum-told .given .1)))
 
 add-result : tie.Need-add-result
@@ -67,7 +65,6 @@ low-requires-2 : tie.Need-low-requires-2
 low-requires-2 c κs = search needs
 
 slice-write-out-3 : tie.Need-slice-write-out-3
-unfolding widthOf
 slice-write-out-3 c = let e = c .before in omega (arith, room (e .before .before) (e .enum-told2 .given .1))
 
 add-result-2 : tie.Need-add-result-2
@@ -77,7 +74,7 @@ same-length : tie.Need-same-length
 same-length c = search needs
 
 returns-3 : tie.Need-returns-3
-unfolding widthOf puts
+unfolding puts
 returns-3 c =
     let e = c .before .before in
     let q = e .enum-told .given .1 in
@@ -92,7 +89,7 @@ same-length-2 : tie.Need-same-length-2
 same-length-2 c = search needs
 
 returns-4 : tie.Need-returns-4
-unfolding widthOf puts
+unfolding puts
 returns-4 c =
     let e = c .before in
     let q = e .enum-told2 .given .1 in

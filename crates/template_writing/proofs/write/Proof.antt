@@ -1,5 +1,5 @@
 -- `template_writing::write` meets its contract: whether a description is wanted, and how it was put aside, decides whether the template is written.
-use mathlib.Core.Path.{_≡_, sym, ap, _∙_}
+use mathlib.Core.Path.{_≡_, ap, _∙_}
 use mathlib.Core.Bool.{true}
 use Prim.Native.Nat.{_≤_}
 use native.Mathlib.Omega.{arith}
@@ -7,9 +7,9 @@ use borrow.Author.Needs.{needs}
 use borrow.Author.Tests.{not-true, not-false}
 use lib.ListN.{replicate, length}
 use Rattle.formats.specs.Lent.{writing}
-use Rattle.channels.specs.Channel.{widthOf}
 use Rattle.descriptions.specs.Description.{encodeDescription}
 use Rattle.description_writing.specs.Write.{putIf}
+use Rattle.channels.specs.declared.Format.the-variants.{Compact}
 use Rattle.descriptions.specs.SizeLaws.{description-size}
 use Rattle.description_writing.specs.AsideLaws.{aside-done, aside-refused}
 use Rattle.template_writing.proofs.Laying.{unwanted-written, passed-written, refused-written}
@@ -52,8 +52,7 @@ module _ (m : tie.After-put) where
   is-wanted : start .args .described ≡ true
   is-wanted = not-false (start .args .described) (m .before .before .if1 .left)
 
-  aside : writing (m .put .result) (m .put .last .0) ≡ putIf 1 (start .args .description) (replicate 114 0) 0
-  unfolding widthOf
+  aside : writing (m .put .result) (m .put .last .0) ≡ putIf Compact (start .args .description) (replicate 114 0) 0
   aside = m .put .ensures
 
   fits : length (encodeDescription 1 (start .args .description)) ≤ 114
@@ -69,13 +68,13 @@ part-bytes-start : tie.Need-part-bytes-start
 part-bytes-start c = search needs
 
 part-bytes-end : tie.Need-part-bytes-end
-part-bytes-end c = let e = c .before .before in let m = e .before .before .before in aside-done 1 _ _ _ _ (aside m) (fits m) (e .end .given .1) .1
+part-bytes-end c = let e = c .before .before in let m = e .before .before .before in aside-done Compact _ _ _ _ (aside m) (fits m) (e .end .given .1) .1
 
 write-fields-requires-2 : tie.Need-write-fields-requires-2
 write-fields-requires-2 c κs =
     let e = c .before .before .before .before in
     let m = e .before .before .before in
-    omega (arith, fits m, ap length (aside-done 1 _ _ _ _ (aside m) (fits m) (e .end .given .1) .2))
+    omega (arith, fits m, ap length (aside-done Compact _ _ _ _ (aside m) (fits m) (e .end .given .1) .2))
 
 enum-known-refusal : tie.Need-enum-known-refusal
 enum-known-refusal c = search needs
@@ -89,7 +88,7 @@ returns-2 c =
     let e = w .before .before .before .before .before in
     let m = e .before .before .before in
     let a = start m .args in
-    let f = aside-done 1 _ _ _ _ (aside m) (fits m) (e .end .given .1) in
+    let f = aside-done Compact _ _ _ _ (aside m) (fits m) (e .end .given .1) in
     w .write-fields2 .ensures ∙ passed-written (a .described) (a .description) (a .limited) (a .maximum) (a .out .now) (is-wanted m) _ (f .2) (f .0)
 
 returns-3 : tie.Need-returns-3
@@ -97,7 +96,7 @@ returns-3 c =
     let e = c .before in
     let m = e .before .before .before in
     let a = start m .args in
-    refused-written (a .described) (a .description) (a .limited) (a .maximum) (a .out .now) (is-wanted m) (aside-refused 1 _ _ _ _ (aside m) (fits m) (e .refusal .given .1))
+    refused-written (a .described) (a .description) (a .limited) (a .maximum) (a .out .now) (is-wanted m) (aside-refused Compact _ _ _ _ (aside m) (fits m) (e .refusal .given .1))
 
 pub write-spec : {M : Type 1} → statement M
 write-spec =

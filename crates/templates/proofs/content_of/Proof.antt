@@ -9,6 +9,7 @@ use Rattle.templates.specs.Reading.{withContent, describedBy, contentOf,
 use Rattle.templates.proofs.Parts.{free-from, end-within, content-there, content-missing, content-none, content-other, content-field}
 use Rattle.templates.proofs.content_of.Statement.{statement}
 use Rattle.templates.proofs.content_of.Tie as tie
+use Rattle.channels.specs.declared.Format.the-variants.{Compact}
 
 module _ (c : tie.Else2) where
   abbrev start : tie.Start
@@ -32,7 +33,7 @@ returns c =
     let s = c .before .before .before .before .before .args .s .now in
     c .fill .ensures
     ∙ ap (filled false (c .before .before .nothing .result)) (c .before .limited-from .ensures)
-    ∙ rw (c .before .before .nothing .ensures) (free-from (drop 2 s) false nothing)
+    ∙ rw (c .before .before .nothing .ensures) (free-from (drop 2 s) false (nothing Compact))
     ∙ sym (content-none s (c .before .before .before .if1 .taken))
 
 shared-slice-read-if2 : tie.Need-shared-slice-read-if2
@@ -52,7 +53,7 @@ returns-2 c =
     let s = c .before .before .before .before .before .before .before .args .s .now in
     c .fill2 .ensures
     ∙ ap (filled false (c .before .before .nothing2 .result)) (c .before .limited-from2 .ensures)
-    ∙ rw (c .before .before .nothing2 .ensures) (free-from (drop 2 s) false nothing)
+    ∙ rw (c .before .before .nothing2 .ensures) (free-from (drop 2 s) false (nothing Compact))
     ∙ sym (content-other s (omega arith) (c .before .before .before .if2 .taken))
 
 end-of-requires : tie.Need-end-of-requires

@@ -13,13 +13,14 @@ use Rattle.templates.specs.Reading.{describedBy, refused, faultOf, fille
 use Rattle.templates.proofs.Parts.{free-from, description-done, description-failed, described-whole, described-part, described-short, described-bad}
 use Rattle.templates.proofs.described_by.Statement.{statement}
 use Rattle.templates.proofs.described_by.Tie as tie
+use Rattle.channels.specs.declared.Format.the-variants.{Compact}
 
 abbrev start : tie.After-description → tie.Start
 start c = c .before .before .before .before
 
 -- the description fails
 failing : (c : tie.After-outcome2) → let a = start (c .before .before) .args in
-    run (description 1) (take (a .end - 4) (drop 4 (a .s .now))) ≡ failed (c .outcome2 .given .0 .0)
+    run (description Compact) (take (a .end - 4) (drop 4 (a .s .now))) ≡ failed (c .outcome2 .given .0 .0)
 failing c = description-failed _ _ (c .before .before .before .read .ensures) (c .outcome2 .given .1)
 
 -- a byte of it was refused

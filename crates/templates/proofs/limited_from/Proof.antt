@@ -10,6 +10,7 @@ use Rattle.templates.specs.Reading.{withContent, limitedBy, limitedFrom,
 use Rattle.templates.proofs.Parts.{end-within, content-there, content-missing, limited-none, limited-other, limited-field}
 use Rattle.templates.proofs.limited_from.Statement.{statement}
 use Rattle.templates.proofs.limited_from.Tie as tie
+use Rattle.channels.specs.declared.Format.the-variants.{Compact}
 
 module _ (c : tie.Else2) where
   abbrev start : tie.Start
@@ -17,7 +18,7 @@ module _ (c : tie.Else2) where
 
   -- the field 82
   field : let a = start .args in
-      limitedFrom false nothing (drop (a .at) (a .s .now)) ≡ withContent (drop (a .at + 1) (a .s .now)) (limitedBy false nothing)
+      limitedFrom false (nothing Compact) (drop (a .at) (a .s .now)) ≡ withContent (drop (a .at + 1) (a .s .now)) (limitedBy false (nothing Compact))
   field = limited-field _ _ (start .args .s .now) (start .args .at) (omega arith) (c .if2 .left)
 
 up-to-requires : tie.Need-up-to-requires
@@ -69,7 +70,7 @@ returns-3 c =
     let a = start (f .before) .args in
     let z : a .at + 1 + 1 ≡ a .at + 2 = omega arith in
     c .limited-by .ensures
-    ∙ ap limitOf (sym (field (f .before) ∙ rw z at (content-there (a .s .now) (a .at + 1) (limitedBy false nothing) (sym (f .end-of .ensures) ∙ e .end .given .1))))
+    ∙ ap limitOf (sym (field (f .before) ∙ rw z at (content-there (a .s .now) (a .at + 1) (limitedBy false (nothing Compact)) (sym (f .end-of .ensures) ∙ e .end .given .1))))
 
 returns-4 : tie.Need-returns-4
 returns-4 c =
@@ -77,7 +78,7 @@ returns-4 c =
     let f = e .before .before in
     let a = start (f .before) .args in
     c .no-limit2 .ensures
-    ∙ ap limitOf (sym (field (f .before) ∙ content-missing (a .s .now) (a .at + 1) (limitedBy false nothing) (sym (f .end-of .ensures) ∙ e .enum-told .given .1)))
+    ∙ ap limitOf (sym (field (f .before) ∙ content-missing (a .s .now) (a .at + 1) (limitedBy false (nothing Compact)) (sym (f .end-of .ensures) ∙ e .enum-told .given .1)))
 
 pub limited-from-spec : {M : Type 1} → statement M
 limited-from-spec =

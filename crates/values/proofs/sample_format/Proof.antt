@@ -7,7 +7,6 @@ use Rattle.values.proofs.sample_format.Statement.{statement}
 use Rattle.values.proofs.sample_format.Tie as tie
 
 returns : tie.Need-returns
-unfolding widthOf
 returns c = sym (ap (λ t. cond t 1 (widthOf (c .before .args .format))) (eq-eqb (c .before .args .channel) S (c .if1 .taken)))
 
 returns-2 : tie.Need-returns-2

@@ -3,7 +3,7 @@
 
 use super::Found;
 use crate::answers::digits;
-use crate::channels::CHANNELS;
+use crate::asking::answer_words::{is_refusal, numbers, Record};
 use crate::compare::{Answered, Claim, Comparison};
 
 const REFUSED: Claim = (
@@ -36,65 +36,9 @@ const ALIKE: Claim = (
 /// What a lent number is before the question.
 const BEFORE: &str = "99999";
 
-/// An answer of `whole` that is a record, taken apart.
-struct Record<'a> {
-    length: &'a str,
-    count: usize,
-    presence: &'a str,
-    channels: Vec<&'a str>,
-}
-
-impl<'a> Record<'a> {
-    /// None for a refusal, or if the answer has another form.
-    fn of(whole: &'a Answered) -> Option<Record<'a>> {
-        let words: Vec<&str> = whole.text()?.split(' ').collect();
-        let ["record", length, count, presence, ref channels @ ..] = words[..] else {
-            return None;
-        };
-        Some(Record {
-            length,
-            count: count.parse::<u32>().ok()? as usize,
-            presence,
-            channels: channels.to_vec(),
-        })
-    }
-
-    /// How many numbers its points have.
-    fn amount(&self) -> usize {
-        let stored = self.channels.iter().filter(|word| !is_constant(word));
-        self.count * stored.count()
-    }
-
-    /// What `point` must answer, with the numbers taken from the columns.
-    fn point(&self, values: &[&str], index: usize) -> Option<String> {
-        let mut answer = "point".to_string();
-        let mut columns = 0;
-        for channel in CHANNELS {
-            let named = |word: &&&str| word.split('.').next() == Some(channel.name);
-            let place = match self.channels.iter().find(named) {
-                None => ".",
-                Some(word) if is_constant(word) => "-",
-                Some(_) => {
-                    columns += 1;
-                    values.get((columns - 1) * self.count + index)?
-                }
-            };
-            answer += &format!(" {place}");
-        }
-        Some(answer)
-    }
-}
-
-fn is_constant(word: &str) -> bool {
-    word.split('.').any(|part| part == "constant")
-}
-
-/// The numbers of VALUES, as texts.
-fn numbers(values: &str) -> Vec<&str> {
-    match values {
-        "-" => Vec::new(),
-        _ => values.split(',').collect(),
-    }
+/// How many numbers the points of a record have.
+fn amount(record: &Record) -> usize {
+    record.count * record.description.stored().len()
 }
 
 /// VALUES of an answer of `columns`. None for a refusal.
@@ -112,16 +56,10 @@ pub fn judge_columns(comparison: &mut Comparison, found: &Found) {
     comparison.claim(REFUSED, &[whole, columns], holds);
 }
 
-fn is_refusal(answered: &Answered) -> bool {
-    answered
-        .text()
-        .is_some_and(|text| text.starts_with("refused "))
-}
-
 pub fn judge_lent(comparison: &mut Comparison, found: &Found, amount: usize, lent: &Answered) {
     let Found { whole, columns } = found;
     let expected = match Record::of(whole) {
-        Some(record) if record.amount() == amount => Some("columns"),
+        Some(record) if self::amount(&record) == amount => Some("columns"),
         Some(_) => Some("refused 13"),
         None => whole.text(),
     };
@@ -146,8 +84,9 @@ pub fn judge_point(comparison: &mut Comparison, found: &Found, index: i64, point
     let Found { whole, columns } = found;
     let expected = || {
         let (record, values) = (Record::of(whole)?, numbers(values_of(columns)?));
-        let all_there = values.len() == record.amount();
-        record.point(&values, index as usize).filter(|_| all_there)
+        let place = |column| values.get(column * record.count + index as usize).copied();
+        let point = record.description.point(place);
+        point.filter(|_| values.len() == amount(&record))
     };
     let expected = expected();
     let holds = expected.is_some() && expected.as_deref() == point.text();
@@ -164,7 +103,7 @@ pub fn write_back(found: &Found, extended: &Answered) -> Option<String> {
         "extended" => bytes,
         _ => "!",
     };
-    let (room, said) = (record.length, record.channels.join(" "));
+    let (room, said) = (record.length, record.description.words());
     Some(format!(
         "write-columns {count} {values} {extended} {room} {said}"
     ))

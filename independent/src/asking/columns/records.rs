@@ -33,7 +33,7 @@ fn every_kind(random: &mut Random) -> Vec<Parts> {
     let mut all = Vec::new();
     for kinds in kinds::every_combination() {
         for count in [random.between(0, 2), 3] {
-            let description = kinds::description(random, &kinds);
+            let description = kinds::description(random, Format::Full, &kinds);
             all.push(inputs::of_description(random, description, count));
         }
     }

@@ -28,7 +28,7 @@ fn every_kind(random: &mut Random) -> Vec<Tried> {
 
 /// Three points.
 fn of_kinds(random: &mut Random, kinds: &[(usize, Kind)]) -> Tried {
-    let description = kinds::description(random, kinds);
+    let description = kinds::description(random, Format::Full, kinds);
     let bytes = of_points(random, description, 3);
     let far = far(random, &bytes, 3);
     let indices = vec![0, random.between(1, 2), 3, far];

@@ -61,15 +61,15 @@ impl Attribute {
     }
 
     /// X, Y and this channel, with nothing said but this number.
-    pub fn only(self, given: bool, number: i64) -> Description {
-        let mut description = x_and_y();
+    pub fn only(self, format: Format, given: bool, number: i64) -> Description {
+        let mut description = x_and_y(format);
         self.say(&mut description, given, number);
         description
     }
 }
 
-fn x_and_y() -> Description {
-    let mut description = Description::default();
+fn x_and_y(format: Format) -> Description {
+    let mut description = Description::empty(format);
     for said in &mut description[..2] {
         said.included = true;
     }
@@ -78,7 +78,7 @@ fn x_and_y() -> Description {
 
 /// The question to write it: a record without points, or a template without a maximum. 15 comes
 /// behind everything, so the room may be short.
-fn line(random: &mut Random, description: Description, format: Format) -> String {
+pub fn line(random: &mut Random, description: Description, format: Format) -> String {
     let room = random.pick(&[0, 1, 3]);
     match format {
         Format::Full => {
@@ -113,8 +113,8 @@ fn alone(comparison: &mut Comparison, random: &mut Random, format: Format) {
         numbers.dedup();
         for number in numbers.into_iter().filter(|number| *number != 0) {
             tried.push(Flagged {
-                with: line(random, attribute.only(true, number), format),
-                without: line(random, attribute.only(false, number), format),
+                with: line(random, attribute.only(format, true, number), format),
+                without: line(random, attribute.only(format, false, number), format),
                 name: attribute.name(),
             });
         }
@@ -127,7 +127,7 @@ fn pairs(comparison: &mut Comparison, random: &mut Random, format: Format) {
     let mut lines = Vec::new();
     for (place, first) in all().into_iter().enumerate() {
         for second in all().into_iter().skip(place + 1) {
-            let mut description = x_and_y();
+            let mut description = x_and_y(format);
             for attribute in [first, second] {
                 let number = outside(random, attribute.range(format));
                 attribute.say(&mut description, true, number);
@@ -145,7 +145,7 @@ fn behind_others(comparison: &mut Comparison, random: &mut Random, format: Forma
         let (low, high) = attribute.range(format);
         for number in [low - 1, high + 1] {
             for (untidy, missing) in [(true, false), (true, false), (false, true), (true, true)] {
-                let mut description = attribute.only(true, number);
+                let mut description = attribute.only(format, true, number);
                 if untidy {
                     break_tidiness(random, &mut description);
                 }
@@ -202,7 +202,11 @@ fn with_maxima(comparison: &mut Comparison, random: &mut Random) {
     for attribute in all() {
         let (low, high) = attribute.range(Format::Compact);
         for number in [low - 1, high, high + 1] {
-            let line = line(random, attribute.only(true, number), Format::Compact);
+            let line = line(
+                random,
+                attribute.only(Format::Compact, true, number),
+                Format::Compact,
+            );
             lines.extend(MAXIMUM_WORDS.map(|word| line.replacen('!', word, 1)));
         }
     }
@@ -214,7 +218,7 @@ fn not_wanted(comparison: &mut Comparison, random: &mut Random) {
     let mut lines = Vec::new();
     for attribute in all() {
         let number = outside(random, attribute.range(Format::Compact));
-        let mut lent = attribute.only(random.one_in(2), number);
+        let mut lent = attribute.only(Format::Compact, random.one_in(2), number);
         if random.one_in(2) {
             leave_out(random, &mut lent);
         }

@@ -116,6 +116,9 @@ fn is_included(words: &[&str], channel: &str) -> bool {
 
 const ATTRIBUTES: [&str; 5] = ["scaling", "minimum", "maximum", "mean", "deviation"];
 
+/// The marks of a record's and of a template's description (request L4).
+const MARKS: [&str; 2] = ["full", "compact"];
+
 /// 4, 11, and each number that stands with its flag. `format` is 0 for a record, 1 for a template.
 fn of_description(words: &[&str], format: usize) -> Vec<Stage> {
     let missing = !is_included(words, "X") || !is_included(words, "Y");
@@ -124,7 +127,9 @@ fn of_description(words: &[&str], format: usize) -> Vec<Stage> {
         .filter_map(|(name, ranges, _)| Some((*name, word_of(words, name)?, *ranges)))
         .collect();
     let untidy = said.iter().any(|(_, word, _)| is_untidy(word));
-    let mut stages = vec![stage("4", missing), stage("11", untidy)];
+    // A mark is the first word, or there is none.
+    let other = words.first() == Some(&MARKS[1 - format]);
+    let mut stages = vec![stage("4", missing), stage("11", untidy || other)];
     for (name, word, ranges) in said {
         for attribute in ATTRIBUTES {
             let range = match attribute {

@@ -42,9 +42,10 @@ pub const RECORDS: [(&str, i64); 8] = [
 ];
 
 pub fn of_words(random: &mut Random, channels: &str, count: i64) -> Parts {
+    let own = Format::Full;
     let description = Words::new(channels.as_bytes())
-        .channels()
-        .unwrap_or_default();
+        .description(own)
+        .unwrap_or(Description::empty(own));
     with_points(random, description, count)
 }
 
@@ -64,7 +65,7 @@ fn line(random: &mut Random, parts: &Parts) -> String {
 /// The range of the value with this index.
 pub fn range(parts: &Parts, index: usize) -> (i64, i64) {
     let channels = stored(&parts.description);
-    value_range(channels[index % channels.len()])
+    value_range(parts.description.mark, channels[index % channels.len()])
 }
 
 /// Each value at the ends of its range and outside, at the ends of the other ranges too.
@@ -126,7 +127,7 @@ fn behind_attributes(comparison: &mut Comparison, random: &mut Random) {
     for attribute in attributes::all() {
         let (low, high) = attribute.range(Format::Full);
         for number in [low - 1, high, high + 1] {
-            let mut parts = with_points(random, attribute.only(true, number), 1);
+            let mut parts = with_points(random, attribute.only(Format::Full, true, number), 1);
             let mut counted = parts.clone();
             break_count(random, &mut counted);
             break_value(random, &mut parts);

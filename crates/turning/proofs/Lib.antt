@@ -1,0 +1,5 @@
+pub mod Standing
+pub mod Judging
+pub mod Putting
+pub mod Whole
+pub mod Aside
