@@ -8,7 +8,7 @@ use Rattle.formats.specs.OneAnswer.{OneAnswer, named}
 use Rattle.formats.specs.Lent.{Writing, writing}
 use Rattle.templates.specs.Reading.{templateOf}
 use Rattle.bodies.specs.Reading.{judgedBy, pointedBy, placesBy}
-use Rattle.bodies.specs.Writing.{writeBy}
+use Rattle.bodies.specs.Writing.{countFits, writeBy}
 use Rattle.bodies.specs.declared.Written.{Written}
 
 module _ (template body : List ℕ) where
@@ -20,6 +20,9 @@ module _ (template body : List ℕ) where
 
   pub one-point : (index : ℕ) → OneAnswer (λ r. r ≡ placesBy index (templateOf template) body)
   one-point index = named
+
+pub one-count : (count width : ℕ) → OneAnswer (λ r. r ≡ countFits count width)
+one-count count width = named
 
 -- of the answer and the bytes together
 pub one-written : (template : List ℕ) (count : ℕ) (numbers : List ℤ) (wanted : Bool) (out : List ℕ)

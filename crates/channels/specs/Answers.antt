@@ -6,10 +6,11 @@ use lib.IntN.{ℤ}
 use Rattle.formats.specs.Binary.{bit, binary}
 use Rattle.formats.specs.OneAnswer.{OneAnswer, named}
 use Rattle.channels.specs.Bits.{moved}
-use Rattle.channels.specs.Channel.{signs, signedOf, widthOf}
-use Rattle.channels.specs.Descriptors.{isStored}
+use Rattle.channels.specs.Channel.{isSame, signs, signedOf, widthOf}
+use Rattle.channels.specs.Descriptors.{isStored, included, stored}
 use Rattle.channels.specs.Stored.{valueOf, storedIf}
 use Rattle.channels.specs.declared.Descriptor.{Descriptor}
+use Rattle.channels.specs.declared.Description.{Description}
 use Rattle.channels.specs.declared.Format.{Format}
 
 pub one-sign : (channel : ℕ) → OneAnswer (λ r. r ≡ signedOf channel)
@@ -26,6 +27,15 @@ one-behind bits = named
 
 pub one-holding : (d : Descriptor) → OneAnswer (λ r. r ≡ isStored d)
 one-holding d = named
+
+pub one-included : (d : Description) → OneAnswer (λ r. r ≡ included d)
+one-included d = named
+
+pub one-stored-channels : (d : Description) → OneAnswer (λ r. r ≡ stored d)
+one-stored-channels d = named
+
+pub one-same : (format other : Format) → OneAnswer (λ r. r ≡ isSame format other)
+one-same format other = named
 
 pub one-value : (format : Format) (signed : Bool) (number : ℕ) → OneAnswer (λ r. r ≡ valueOf (widthOf format) signed number)
 one-value format signed number = named

@@ -15,9 +15,10 @@ use Rattle.channels.specs.Channel.{isSame, signedOf, widthOf, same-is, is-same}
 use Rattle.channels.specs.declared.Descriptor.{Descriptor}
 use Rattle.channels.specs.declared.Description.{Description}
 use Rattle.channels.specs.declared.Format.{Format}
-use Rattle.descriptions.specs.Description.{includesXY, fitsAttribute, fitsDescriptor, every, neat, allFit, Valid}
-use Rattle.descriptions.specs.EncodedLaws.{tidy-marked, valid-neat, valid-fits}
+use Rattle.descriptions.specs.Description.{includesXY, fitsAttribute, fitsDescriptor, every, neat, allFit, tidy, Valid}
+use Rattle.descriptions.specs.EncodedLaws.{tidy-neat, tidy-marked, tidy-fits}
 use Rattle.description_judging.specs.Judging.{numbersOf, numbersFrom, numbers, neatIn, judgementOf}
+use Rattle.description_judging.specs.Marks.{PassesTidy}
 
 -- ---- The numbers
 
@@ -104,10 +105,19 @@ module _ (format : Format) (d : Description) where
   pub passed-valid : judgementOf format d ≡ judgement.Passed → length (d .channels) ≡ 16 → Valid format d
   passed-valid e h = let s = passed-sound e in record { sixteen = h; xy = s .xy; marked = s .marked; tidy = tidy-marked format d (s .marked) (s .neat) (s .ranges) }
 
-  pub valid-passed : Valid format d → (judgementOf format d ≡ judgement.Passed) × (length (d .channels) ≡ 16)
+  sound-passed : Sound format d → judgementOf format d ≡ judgement.Passed
   unfolding judgementOf neatIn stages orElse require
-  valid-passed v = (
-    rw
-        (is-true (includesXY d) (v .xy), is-same (d .mark) format (v .marked), is-true (neat d) (valid-neat format d v), all-pass (widthOf format) d (is-true (allFit (widthOf format) d) (valid-fits format d v))),
-    v .sixteen,
-  )
+  sound-passed s =
+      rw (is-true (includesXY d) (s .xy), is-same (d .mark) format (s .marked), is-true (neat d) (s .neat), all-pass (widthOf format) d (is-true (allFit (widthOf format) d) (s .ranges)))
+
+  tidy-sound : T (includesXY d) → d .mark ≡ format → T (tidy d) → Sound format d
+  tidy-sound h e t = record { xy = h; marked = e; neat = tidy-neat d t; ranges = tidy-fits format d e t }
+
+  pub valid-passed : Valid format d → (judgementOf format d ≡ judgement.Passed) × (length (d .channels) ≡ 16)
+  valid-passed v = (sound-passed (tidy-sound (v .xy) (v .marked) (v .tidy)), v .sixteen)
+
+pub passes-tidy : PassesTidy
+passes-tidy format d = (
+  λ e. let s = passed-sound format d e in (s .xy, (s .marked, tidy-marked format d (s .marked) (s .neat) (s .ranges))),
+  λ h. sound-passed format d (tidy-sound format d (h .0) (h .1 .0) (h .1 .1)),
+)

@@ -11,7 +11,7 @@ use lib.IntN.{ℤ, pos, negsuc, natAbs}
 use lib.ListN.{length, getD, length-map, List·getD-map}
 use Rattle.formats.specs.Reader.{Reader, done, any}
 use Rattle.formats.specs.Number.{number, writes-number, two-digits}
-use Rattle.formats.specs.Writes.{Writes, Each, writes-as, writes-map, writes-done, writes-one, writes-each, writes-line}
+use Rattle.formats.specs.Writes.{Writes, written-read, Each, writes-as, writes-map, writes-done, writes-one, writes-each, writes-line}
 use Rattle.channels.specs.Channel.{channels, signedOf, widthOf, from}
 use Rattle.channels.specs.Stored.{valueOf, storedOf, fits, stored-value, value-fits, stored-below, value-stored}
 use Rattle.channels.specs.declared.Attribute.{Attribute}
@@ -20,6 +20,7 @@ use Rattle.channels.specs.declared.Description.{Description}
 use Rattle.channels.specs.declared.Format.{Format}
 use Rattle.formats.specs.Binary.{bit, binary, bits, binary-bits, bits-binary, binary-below}
 use Rattle.channels.specs.Descriptors.{noAttribute, absent}
+use Rattle.descriptions.specs.Marks.{ReadsTidy}
 use Rattle.descriptions.specs.Description.{hasXY, reserved, attribute, descriptor, includes, channelOf, description, encodeAttribute, descriptorByte, encodeDescriptor, encodeChannel, encodeDescription, includesXY, tidyAttribute, flagless, tidyDescriptor, fitsAttribute, fitsDescriptor, every, neat, allFit, tidy, Valid}
 
 -- ---- An attribute
@@ -340,19 +341,19 @@ true-is : (t : Bool) → T t → t ≡ true
 true-is true h = refl
 true-is false h = absurd h
 
+pub tidy-neat : (d : Description) → T (tidy d) → T (neat d)
+unfolding tidy
+tidy-neat d h = and-l (neat d) (allFit (widthOf (d .mark)) d) h
+
 module _ (format : Format) (d : Description) where
   -- what has the mark of a format is tidy where it is neat and its numbers fit that format
   pub tidy-marked : d .mark ≡ format → T (neat d) → T (allFit (widthOf format) d) → T (tidy d)
   unfolding tidy neat allFit
   tidy-marked e h q = rw e (and-i (neat d) (allFit (widthOf format) d) h q)
 
-  pub valid-neat : Valid format d → T (neat d)
-  unfolding tidy
-  valid-neat v = and-l (neat d) (allFit (widthOf (d .mark)) d) (v .tidy)
-
-  pub valid-fits : Valid format d → T (allFit (widthOf format) d)
+  pub tidy-fits : d .mark ≡ format → T (tidy d) → T (allFit (widthOf format) d)
   unfolding tidy allFit
-  valid-fits v = rw (v .marked) at (and-r (neat d) (allFit (widthOf (d .mark)) d) (v .tidy))
+  tidy-fits e h = rw e at (and-r (neat d) (allFit (widthOf (d .mark)) d) h)
 
   valid : d .mark ≡ format → Channels (widthOf format) (mask d) 16 0 (d .channels) → hasXY .holds (mask d / 256) ≡ true → Valid format d
   unfolding neat allFit
@@ -360,7 +361,7 @@ module _ (format : Format) (d : Description) where
 
   as-channels : Valid format d → Channels (widthOf format) (mask d) 16 0 (d .channels)
   unfolding neat allFit
-  as-channels v = record { flags = bits-mask d (v .sixteen) .1; many = v .sixteen; neat = valid-neat v; ranges = valid-fits v }
+  as-channels v = record { flags = bits-mask d (v .sixteen) .1; many = v .sixteen; neat = tidy-neat d (v .tidy); ranges = tidy-fits (v .marked) (v .tidy) }
 
 pub writes-description : (format : Format) → Writes (description format) (encodeDescription (widthOf format)) (Valid format)
 unfolding description encodeDescription from
@@ -385,3 +386,7 @@ writes-description format =
       (omega (arith, b .0), sym (xy-first d (mask d) (b .1)) ∙ true-is (includesXY d) (h .xy)),
       ((omega arith, refl), (rw e (of-all w (mask d) 16 0 (d .channels) refl (as-channels format d h)), λ j. record { channels = d .channels; mark = sym (h .marked) j })),
     ))
+
+-- so what is read of a format has its mark and is tidy
+pub reads-tidy : ReadsTidy
+reads-tidy format s d n bytes e = let v = written-read (writes-description format) s bytes e .0 in (v .marked, v .tidy)

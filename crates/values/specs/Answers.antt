@@ -8,7 +8,7 @@ use Rattle.formats.specs.OneAnswer.{OneAnswer, named}
 use Rattle.formats.specs.Lent.{Writing, writing}
 use Rattle.channels.specs.Channel.{widthOf}
 use Rattle.channels.specs.declared.Format.{Format}
-use Rattle.values.specs.Values.{judgementOf, putOf}
+use Rattle.values.specs.Values.{judgementOf, storedSample, putOf}
 use Rattle.orders.specs.declared.Order.{Order}
 
 module _ (values : List ℤ) (count : ℕ) (format : Format) (stored : List Bool) (order : Order) where
@@ -18,3 +18,6 @@ module _ (values : List ℤ) (count : ℕ) (format : Format) (stored : List Bool
   -- of the answer and the bytes together
   pub one-put : (out : List ℕ) (at : ℕ) → OneAnswer (λ (v : Writing ℕ). writing (v .answer) (v .bytes) ≡ putOf (widthOf format) stored order count values out at)
   one-put out at = named
+
+pub one-stored-sample : (format : Format) (channel : ℕ) (value : ℤ) → OneAnswer (λ r. r ≡ storedSample (widthOf format) channel value)
+one-stored-sample format channel value = named

@@ -2,7 +2,7 @@
 use mathlib.Core.Path.{sym, ap, _∙_}
 use lib.ListN.{length}
 use Rattle.turning.specs.Turning.{turnOf}
-use Rattle.turning.specs.TurningLaws.{by-record}
+use Rattle.turning.specs.DemandLaws.{by-record}
 use Rattle.turning.proofs.Whole.{own-refused, Filled, filled}
 use borrow.Author.Needs.{needs}
 use Rattle.turning.proofs.turn.Statement.{statement}
