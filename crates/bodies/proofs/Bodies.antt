@@ -29,6 +29,7 @@ use Rattle.points.specs.Points.{point, width}
 use Rattle.templates.specs.declared.Judged as templates
 use Rattle.bodies.specs.Body.{begun, pointsIn}
 use Rattle.bodies.specs.Reading.{ruled, ruleOf, exceeds, verdictBy, verdictOf, unjudged, described, judgedBy, pointedAt, pointedBy}
+use Rattle.bodies.specs.DemandLaws.{said-of}
 use Rattle.bodies.specs.declared.Rule.{Rule}
 use Rattle.bodies.specs.declared.Verdict.{Verdict}
 use Rattle.bodies.specs.declared.Verdict.the-variants as verdict
@@ -113,12 +114,6 @@ own limited maximum size (ok points n) {refusal} e = go (ltb n size) (exceeds li
 own limited maximum size short e = impossible (cc)
 own limited maximum size (bad k p) e = impossible (cc)
 
--- and is the same whether there is a description beside it
-pub verdict-described : (d : Description) (v : Verdict) → described d v .verdict ≡ v
-verdict-described d (verdict.Body count) = refl
-verdict-described d (verdict.TemplateRefused refusal) = refl
-verdict-described d (verdict.Refused refusal) = refl
-
 bodied : {d : Description} (v : Verdict) → OneOf (0 ∷ 1 ∷ []) (tagOf declared.the-type v) → ((refusal : Refusal) → v ≡ verdict.TemplateRefused refusal → ⊥)
     → record { verdict = v; description = d } ≡ described d v
 bodied (verdict.Body count) h n = refl
@@ -160,7 +155,7 @@ module _ (j : templates.Judged) (b : List ℕ) (rule : Rule) (e : rule ≡ ruleO
     pub pointed-passed : {w : Verdict} → v ≡ w → (index : ℕ) → pointedAt index w ≡ pointedBy index j b
     unfolding pointedBy
     pointed-passed r index =
-        ap (pointedAt index) (sym r ∙ sym (verdict-described (j .template .description) v)) ∙ ap (λ x. pointedAt index (x .verdict)) judged-passed
+        ap (pointedAt index) (sym r ∙ sym (said-of (j .template .description) v)) ∙ ap (λ x. pointedAt index (x .verdict)) judged-passed
 
     pub judged-faulty : {refusal : Refusal} → v ≡ verdict.Refused refusal → unjudged v ≡ judgedBy j b
     judged-faulty r = let z : unjudged v ≡ described (j .template .description) v = rw r in z ∙ judged-passed

@@ -34,7 +34,7 @@ use Rattle.bodies.specs.declared.Verdict.the-variants as verdict
 use Rattle.bodies.specs.declared.Pointed.{Pointed}
 use Rattle.bodies.specs.declared.Pointed.the-variants as pointed
 use Rattle.bodies.proofs.Pointed as asked
-use Rattle.bodies.proofs.Bodies.{verdict-described}
+use Rattle.bodies.specs.DemandLaws.{said-of}
 
 -- a verdict that is a body tells what was read
 record Read (x : Answer (List (List ℤ))) (count : ℕ) : Type 0 where
@@ -74,7 +74,7 @@ point-read limited maximum size x index (verdict.Refused refusal) e q = impossib
 ruled-point : (x : Judgement) (t : Template) (b : List ℕ) (index : ℕ) → pointedAt index (judgedIf x t b .verdict) ≡ pointed.Point → Pointing (read t b) index
 ruled-point judgement.Passed t b index e =
     let v = verdictOf t b in
-    point-read _ _ _ (read t b) index v refl (ap (pointedAt index) (sym (verdict-described (t .description) v)) ∙ e)
+    point-read _ _ _ (read t b) index v refl (ap (pointedAt index) (sym (said-of (t .description) v)) ∙ e)
 ruled-point (judgement.Refused refusal) t b index e = impossible (cc)
 
 no-places : (p : Pointed) → OneOf (1 ∷ 2 ∷ []) (tagOf asked.the-type p) → (index : ℕ) (t : Template) (b : List ℕ) → nowhere ≡ placesIf p index t b

@@ -43,7 +43,7 @@ use Rattle.bodies.specs.declared.Written.the-variants as written
 
 -- ---- Where the template is no reason to refuse, the body's verdict is said
 
-said-of : (d : Description) (v : Verdict) → described d v .verdict ≡ v
+pub said-of : (d : Description) (v : Verdict) → described d v .verdict ≡ v
 said-of d (verdict.Body count) = refl
 said-of d (verdict.TemplateRefused refusal) = refl
 said-of d (verdict.Refused refusal) = refl

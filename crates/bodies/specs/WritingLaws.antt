@@ -1,10 +1,10 @@
 -- What a body that is written has passed, and that it is a body: stage by stage.
 use mathlib.Core.Path.{_≡_, refl, _∙_}
-use mathlib.Core.Bool.{Bool, true, false, not, _&&_, _||_}
+use mathlib.Core.Bool.{Bool, true, false, _&&_, _||_}
 use mathlib.Core.List.{List}
 use Prim.Native.Nat.{ℕ, zero, suc, _≤_, _<_}
 use native.Mathlib.Omega.{arith}
-use borrow.Author.Tests.{eqb-true, le-leb, leb-true, lt-ltb, ne-eqb}
+use borrow.Author.Tests.{not-true, eqb-true, le-leb, leb-true, lt-ltb, ne-eqb}
 use lib.Dec.{eqb, leb, ltb}
 use lib.IntN.{ℤ}
 use Rattle.formats.specs.Bytes.{impossible}
@@ -20,10 +20,6 @@ use Rattle.bodies.specs.Body.{ValidBody}
 use Rattle.bodies.specs.BodyLaws.{no-points}
 use Rattle.bodies.specs.Reading.{exceeds}
 use Rattle.bodies.specs.Writing.{countFits, judgementBy}
-
-denied : (t : Bool) → not t ≡ true → t ≡ false
-denied true e = impossible (cc)
-denied false e = refl
 
 -- a count fits where it is small, and there are points only where they have bytes
 pub count-fits : (count w : ℕ) → count < 16777216 → (w ≡ 0 → count ≡ 0) → countFits count w ≡ true
@@ -66,7 +62,7 @@ module _ (flags : List Bool) (limited : Bool) (maximum count : ℕ) (numbers : L
       record {
         counted = require-passed _ _ (x .0);
         fitting = compactly-passed _ (x .1 .0);
-        allowed = denied _ (require-passed _ _ (x .1 .1 .1 .0));
+        allowed = not-true _ (require-passed _ _ (x .1 .1 .1 .0));
       }
 
   pub passing : Passes → judgementBy flags limited maximum count numbers false ≡ judgement.Passed
