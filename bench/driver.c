@@ -28,12 +28,15 @@ struct side {
     typeof(costs_write_template) *write_template;
     typeof(costs_thousandths) *thousandths;
     typeof(costs_place) *place;
+    typeof(costs_double) *to_double;
+    typeof(costs_double_place) *double_place;
 };
 
 #define SIDE(s)                                                                                                        \
     {                                                                                                                  \
         s##_judge, s##_describe, s##_point, s##_look_up, s##_look_up_point, s##_read_columns, s##_extended, s##_rest,  \
-            s##_write, s##_step, s##_read_template, s##_write_template, s##_thousandths, s##_place                     \
+            s##_write, s##_step, s##_read_template, s##_write_template, s##_thousandths, s##_place, s##_double,        \
+            s##_double_place                                                                                           \
     }
 
 static const struct side rattle = SIDE(costs), twin = SIDE(twin);
@@ -47,7 +50,7 @@ __attribute__((naked)) static void nothing(void)
 static const struct side empty = {
     (void *)nothing, (void *)nothing, (void *)nothing, (void *)nothing, (void *)nothing, (void *)nothing,
     (void *)nothing, (void *)nothing, (void *)nothing, (void *)nothing, (void *)nothing, (void *)nothing,
-    (void *)nothing, (void *)nothing,
+    (void *)nothing, (void *)nothing, (void *)nothing, (void *)nothing,
 };
 
 // ---- Inputs
@@ -295,6 +298,10 @@ static bool count_row(const struct side *side, const char *row, size_t size)
         BETWEEN_EACH(side->thousandths(3199, 22, 1151));
     } else if (is(row, "place")) {
         BETWEEN_EACH(side->place(NUMBER, 3199, true, 22 * 2048 + 1151));
+    } else if (is(row, "double")) {
+        BETWEEN_EACH(side->to_double(3199, 22, 1151));
+    } else if (is(row, "double-place")) {
+        BETWEEN_EACH(side->double_place(3199, true, 22 * 2048 + 1151));
     } else {
         return false;
     }
@@ -474,6 +481,26 @@ static bool same_thousandths(void)
     return true;
 }
 
+// The doubles are compared bit for bit. A refusal's is of no account, but both have none there.
+static bool is_same_double(struct told_double a, struct told_double b)
+{
+    return a.number == b.number && memcmp(&a.value, &b.value, sizeof a.value) == 0;
+}
+
+static bool same_doubles(void)
+{
+    for (int turn = 0; turn < 200000; turn++) {
+        int64_t raw = throw() % 8 ? (int64_t)(throw() % 98310) - 32771 : (int64_t)((uint64_t)throw() << 44 | throw());
+        uint64_t e = throw() % 8 ? throw() % 33 : throw(), f = throw() % 8 ? throw() % 2049 : throw();
+        SAME(is_same_double(costs_double(raw, e, f), twin_double(raw, e, f)), "double");
+        int32_t number = throw() % 4 ? throw() % 65600 : (int32_t)(throw() << 8);
+        bool given = throw() % 8;
+        SAME(is_same_double(costs_double_place((int32_t)raw, given, number), twin_double_place((int32_t)raw, given, number)),
+             "a place as a double");
+    }
+    return true;
+}
+
 // Records and templates of every kind, cut short at every place, and with a byte changed.
 static bool same_all(void)
 {
@@ -511,7 +538,7 @@ static bool same_all(void)
         }
         __builtin_memset(s, 0, 2048);
     }
-    return same_writing() && same_thousandths();
+    return same_writing() && same_thousandths() && same_doubles();
 }
 
 // A file for the listing program: one record of full points, as many as `size` bytes hold.

@@ -72,6 +72,11 @@ struct told_reading {
     int64_t thousandths;
 };
 
+struct told_double {
+    uint64_t number;
+    double value;
+};
+
 #define CALLS(side)                                                                                                    \
     struct judgement side##_judge(const uint8_t *s, size_t n, size_t channel);                                         \
     struct told side##_describe(const uint8_t *s, size_t n, bool compact, size_t channel);                             \
@@ -89,7 +94,9 @@ struct told_reading {
     struct finished side##_write_template(const uint8_t *header, size_t size, bool limited, uint32_t maximum,          \
                                           uint8_t *out, size_t room);                                                  \
     struct told_reading side##_thousandths(int64_t raw, uint64_t e, uint64_t f);                                       \
-    struct told_reading side##_place(uint64_t kind, int32_t value, bool given, int32_t number);
+    struct told_reading side##_place(uint64_t kind, int32_t value, bool given, int32_t number);                        \
+    struct told_double side##_double(int64_t raw, uint64_t e, uint64_t f);                                             \
+    struct told_double side##_double_place(int32_t value, bool given, int32_t number);
 
 CALLS(costs)
 CALLS(twin)

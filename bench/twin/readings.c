@@ -4,9 +4,6 @@
 #define OUTSIDE ((struct reading){.number = 12, .kind = NUMBER})
 #define UNCALIBRATED ((struct reading){.number = 20, .kind = NUMBER})
 
-// A test that seldom holds: clang then branches, and does not gather the answers of several.
-#define SELDOM(test) __builtin_expect(test, false)
-
 // The nearest to n / d, a half going away from zero, is the half of 2 * n / d without its rest: rounded up where it is
 // not below zero, else down, as a shift does it by itself. So there is one division, and no rest is looked at.
 LIBRARY struct reading thousandths(int64_t raw, uint64_t e, uint64_t f)

@@ -16,6 +16,9 @@ typedef __SIZE_TYPE__ size_t;
 // For a function of the library: static, as the Rattle compiler has it, which sees all crates at once.
 #define LIBRARY [[maybe_unused]] static
 
+// A test that seldom holds: clang then branches, and does not gather the answers of several.
+#define SELDOM(test) __builtin_expect(test, false)
+
 // The channels in the order of 7.3.4.1.
 enum channel { X, Y, Z, VX, VY, AX, AY, T, DT, F, S, TX, TY, AZ, EL, R, CHANNELS };
 

@@ -1,6 +1,7 @@
 //! The answer that `ask` should give to a line.
 
 mod bodies;
+mod doubles;
 
 use crate::columns;
 use crate::description::{words as description_words, Format};
@@ -60,6 +61,8 @@ fn read(line: &[u8]) -> Read<String> {
         b"turn" => bodies::turn(&mut words),
         b"thousandths" => of_numbers(&mut words),
         b"place" => place(&mut words),
+        b"double" => doubles::of_numbers(&mut words),
+        b"double-place" => doubles::of_place(&mut words),
         _ => Err(words::NO_QUESTION),
     }
 }
@@ -220,22 +223,34 @@ fn write_template(words: &mut Words) -> Read<String> {
     Ok(written(template::write(&template, room), room))
 }
 
-fn of_numbers(words: &mut Words) -> Read<String> {
+/// RAW, E and F.
+fn three(words: &mut Words) -> Read<[i64; 3]> {
     let raw = words.number(words::ANY)?;
     let e = words.number(words::NOT_NEGATIVE)?;
     let f = words.number(words::NOT_NEGATIVE)?;
     words.end()?;
+    Ok([raw, e, f])
+}
+
+fn of_numbers(words: &mut Words) -> Read<String> {
+    let [raw, e, f] = three(words)?;
     Ok(match thousandths(raw, e, f) {
         Ok(number) => format!("thousandths {number}"),
         Err(refusal) => refusal.text(),
     })
 }
 
-fn place(words: &mut Words) -> Read<String> {
+/// PLACE and SCALING.
+fn place_and_scaling(words: &mut Words) -> Read<(Place, Option<i64>)> {
     let place = words::place(words.next()?).ok_or(words::NOT_PLACE)?;
     let scaling = |word: &[u8]| words::number(word, words::OF_A_CHANNEL);
     let scaling = words::wanted(words.next()?, scaling).ok_or(words::NOT_NUMBER)?;
     words.end()?;
+    Ok((place, scaling))
+}
+
+fn place(words: &mut Words) -> Read<String> {
+    let (place, scaling) = place_and_scaling(words)?;
     Ok(match of_place(place, scaling) {
         Reading::Absent => "absent".to_string(),
         Reading::Thousandths(number) => format!("thousandths {number}"),

@@ -3,6 +3,7 @@
 use crate::body_examples::{self, BODY_EXAMPLES, MARK_EXAMPLES, TURN_EXAMPLES};
 use crate::columns_examples::{self, COLUMNS_EXAMPLES};
 use crate::compare::Comparison;
+use crate::double_examples::DOUBLE_EXAMPLES;
 use crate::lookup_examples::{self, LOOKUP_EXAMPLES};
 use crate::naming_examples::NAMING_EXAMPLES;
 
@@ -15,6 +16,7 @@ const NAMING: &str = "examples of request L2";
 pub const LOOKUP: &str = "examples of request L7";
 pub const COLUMNS: &str = "examples of request L9";
 pub const BODIES: &str = "examples of request L4";
+const DOUBLES: &str = "examples of request L6";
 
 /// M of document 01: a record with no points.
 const M: &[u8] = &[
@@ -40,6 +42,7 @@ pub fn ask_all(comparison: &mut Comparison) {
         (BODIES, BODY_EXAMPLES),
         (BODIES, TURN_EXAMPLES),
         (BODIES, MARK_EXAMPLES),
+        (DOUBLES, DOUBLE_EXAMPLES),
     ] {
         for (line, answer) in examples {
             comparison.ask_typed(kind, line, answer);
@@ -229,6 +232,12 @@ const ASK_EXAMPLES: Typed = &[
         "turn 1 1 53444900 20313000 C000 00 00 00 00 000001 8080 8000",
         "refused 21 value 0 X AA AA",
     ),
+    ("double 1 26 1952", "double 3F40624DD2F1A9FC"),
+    ("double -1 16 0", "double BFF0000000000000"),
+    ("double 65536 32 0", "refused 12 raw"),
+    ("double-place - 32768", "double 3FF0000000000000"),
+    ("double-place . !", "absent"),
+    ("double-place 0 !", "refused 20"),
 ];
 
 /// C.1 has F before DT; read by the clause its bytes give DT the range and F the scale
@@ -467,9 +476,9 @@ pub const NO_QUESTION: &str = "cannot read: no such question";
 pub const MISSING: &str = "cannot read: a word is missing";
 pub const NOT_NUMBER: &str = "cannot read: not a number";
 pub const NOT_BYTES: &str = "cannot read: not bytes";
-const NOT_PLACE: &str = "cannot read: not a place";
+pub const NOT_PLACE: &str = "cannot read: not a place";
 pub const NOT_CHANNEL: &str = "cannot read: not a channel";
-const TOO_MANY: &str = "cannot read: a word too many";
+pub const TOO_MANY: &str = "cannot read: a word too many";
 
 /// Each row of the paper's table in several forms.
 pub const UNREADABLE: Typed = &[

@@ -3,7 +3,8 @@
 //! without a scaling value (request L3), it names the numbers out of range in stored order
 //! (request L2), it looks points up by themselves (request L7), it reads and writes points by
 //! column (request L9), it reads and writes compact bodies and turns full records into them (request
-//! L4), and the typed answers are its own.
+//! L4), its doubles are those of the machine's division (request L6), and the typed answers are its
+//! own.
 
 use crate::apart;
 use crate::asking;
@@ -11,6 +12,7 @@ use crate::by_column;
 use crate::compact;
 use crate::compare::Comparison;
 use crate::description::stored;
+use crate::divided;
 use crate::inputs;
 use crate::mending;
 use crate::random::Random;
@@ -63,6 +65,7 @@ pub fn check(seed: u64, cases: usize) -> bool {
         record_there_and_back(&mut counts, &mut random, parts);
     }
     order(&mut counts, &mut random, cases);
+    divided::check(&mut counts, &mut random, cases);
     println!("checks of itself: {} good, {} bad", counts.good, counts.bad);
     // The answers typed from the papers, and the claims on its own answers; the other questions
     // are only worked through.

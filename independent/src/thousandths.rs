@@ -14,10 +14,14 @@ pub const ES: RangeInclusive<i64> = 0..=31;
 pub const FS: RangeInclusive<i64> = 0..=2047;
 
 /// Refused with 12 where a number is outside its range: raw is judged first, then E, then F.
-pub fn thousandths(raw: i64, e: i64, f: i64) -> Result<i128, Refusal> {
+pub fn in_range(raw: i64, e: i64, f: i64) -> Result<(), Refusal> {
     check(Which::Raw, raw, RAWS)?;
     check(Which::E, e, ES)?;
-    check(Which::F, f, FS)?;
+    check(Which::F, f, FS)
+}
+
+pub fn thousandths(raw: i64, e: i64, f: i64) -> Result<i128, Refusal> {
+    in_range(raw, e, f)?;
     let above = i128::from(raw) * (1 << 27) * 1000;
     let below = (2048 + i128::from(f)) * (1 << e);
     Ok(nearest(above, below))
@@ -54,21 +58,34 @@ pub enum Reading {
     Refused(Refusal),
 }
 
-/// A scaling value is given where its flag is set, 0 too. A number without its flag is none.
-pub fn of_place(place: Place, scaling: Option<i64>) -> Reading {
+/// Raw, E and F of one place, none where it is absent. A scaling value is given where its flag is
+/// set, 0 too. A number without its flag is none.
+pub fn numbers_of(place: Place, scaling: Option<i64>) -> Option<Result<[i64; 3], Refusal>> {
     let raw = match place {
         // Absent stays absent, whatever the scaling value and also without one.
-        Place::Absent => return Reading::Absent,
+        Place::Absent => return None,
         // 1 divided by the scale (002, 7.3.4.2).
         Place::Constant => 1,
         Place::Number(number) => number,
     };
     // The calibration is unknown (002, 7.3.4.3). This is said before any number is judged.
     let Some(scaling) = scaling else {
-        return Reading::Refused(Refusal::bare(20));
+        return Some(Err(Refusal::bare(20)));
     };
     // F is what is left over a multiple of 2048, so it is always in its range. A scaling value
     // below 0 has an E below 0, one above 65535 an E above 31: it is E that is named.
-    let (e, f) = (scaling.div_euclid(2048), scaling.rem_euclid(2048));
-    thousandths(raw, e, f).map_or_else(Reading::Refused, Reading::Thousandths)
+    Some(Ok([
+        raw,
+        scaling.div_euclid(2048),
+        scaling.rem_euclid(2048),
+    ]))
+}
+
+pub fn of_place(place: Place, scaling: Option<i64>) -> Reading {
+    let Some(numbers) = numbers_of(place, scaling) else {
+        return Reading::Absent;
+    };
+    numbers
+        .and_then(|[raw, e, f]| thousandths(raw, e, f))
+        .map_or_else(Reading::Refused, Reading::Thousandths)
 }

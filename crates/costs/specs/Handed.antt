@@ -36,6 +36,7 @@ use Rattle.walks.specs.declared.Step.{Step}
 use Rattle.templates.specs.declared.Template.{Template}
 use Rattle.templates.specs.declared.Judged as template
 use Rattle.template_writing.specs.declared.Written as template-written
+use Rattle.calibration.specs.Reading as calibration
 use Rattle.readings.specs.Thousandths as readings
 use Rattle.costs.specs.declared.Said.{Said}
 use Rattle.costs.specs.declared.Judgement.{Judgement}
@@ -184,9 +185,9 @@ handedReadTemplate channel j = handedStage channel (j .template) (j .verdict)
 -- ---- A reading
 
 abbrev pub handedReading : readings.Answer → Read
-handedReading (readings.value z) = record { number = 0; thousandths = z }
-handedReading readings.absent = record { number = 1; thousandths = pos 0 }
-handedReading (readings.refused refusal) = record { number = numberOf refusal; thousandths = pos 0 }
+handedReading (calibration.value z) = record { number = 0; thousandths = z }
+handedReading calibration.absent = record { number = 1; thousandths = pos 0 }
+handedReading (calibration.refused refusal) = record { number = numberOf refusal; thousandths = pos 0 }
 
 -- a scaling value, as it is handed in
 abbrev pub scalingFrom : (given : Bool) (number : ℤ) → Attribute

@@ -48,8 +48,10 @@ use Rattle.demands.specs.Shortest.{M}
 use Rattle.templates.specs.declared.Judged as judgement
 use Rattle.templates.specs.Reading as templates
 use Rattle.templates.specs.Reading.{saying, withContent, isShortest, atEnd, limitedBy, limitedFrom, filling, describedBy, contentOf, lengthAndContent, templateOf}
+use Rattle.calibration.specs.Reading as calibration
+use Rattle.calibration.specs.Reading.{value}
 use Rattle.readings.specs.Thousandths as readings
-use Rattle.readings.specs.Thousandths.{value, nearest, thousandths, readWhere, reading}
+use Rattle.readings.specs.Thousandths.{nearest, thousandths, reading}
 
 -- ---- Questions and answers
 
@@ -185,5 +187,5 @@ unfolding answered saidOf run next bind reader.map each times one free literal n
     storedFrom channels stateOf sample point extension fullRecord placesOf
     named refusalOf present verdictFrom descriptionIn verdictNumber judgedWhole pointedAt placesIn
     numbers.value nothing templateNumber withContent isShortest atEnd limitedBy limitedFrom filling describedBy contentOf lengthAndContent templateOf
-    nearest thousandths readings.numbers firstMisfit orElse require readWhere reading
+    nearest thousandths calibration.numbers firstMisfit orElse require calibration.readWhere calibration.reading
 examples = refl

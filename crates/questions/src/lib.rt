@@ -40,10 +40,14 @@ const WRITE_BODY: usize = 17;
 
 const TURN: usize = 18;
 
-// The question of a name, or 19 where there is no such question.
+const DOUBLE: usize = 19;
+
+const DOUBLE_PLACE: usize = 20;
+
+// The question of a name, or 21 where there is no such question.
 fn question_of(name: &[u8]) -> usize {
     words::which(
-        b"judge whole extended rest template columns point step look-up columns-in write write-columns write-template thousandths place body body-point write-body turn",
+        b"judge whole extended rest template columns point step look-up columns-in write write-columns write-template thousandths place body body-point write-body turn double double-place",
         b' ',
         name,
     )
@@ -59,12 +63,14 @@ pub fn answer(text: &mut [u8; 65536], used: u16, line: &[u8]) -> u16 {
         WRITE => writing_questions::write(text, used, line, span.to, Order::Point),
         WRITE_COLUMNS => writing_questions::write(text, used, line, span.to, Order::Column),
         WRITE_TEMPLATE => writing_questions::write_template(text, used, line, span.to),
-        THOUSANDTHS => reading_questions::raw(text, used, line, span.to),
+        THOUSANDTHS => reading_questions::thousandths(text, used, line, span.to),
         PLACE => reading_questions::place(text, used, line, span.to),
         BODY => body_questions::body(text, used, line, span.to),
         BODY_POINT => body_questions::point(text, used, line, span.to),
         WRITE_BODY => body_questions::write(text, used, line, span.to),
         TURN => body_questions::turn(text, used, line, span.to),
+        DOUBLE => reading_questions::double(text, used, line, span.to),
+        DOUBLE_PLACE => reading_questions::double_place(text, used, line, span.to),
         _ => answers::cannot(text, used, answers::NO_SUCH_QUESTION),
     }
 }

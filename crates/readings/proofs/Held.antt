@@ -1,18 +1,12 @@
 -- The numbers that a signed word of 64 bits holds, by their size. Assumes nothing.
 use mathlib.Core.Path.{_≡_, refl, sym, _∙_, subst}
-use mathlib.Core.Bool.{true, false}
 use Prim.Native.Nat.{ℕ, zero, suc, _*_, _^_, _≤_, _<_}
 use native.Mathlib.Omega.{arith}
-use borrow.Author.Tests.{ltb-true, ltb-false, lt-leb, le-leb}
 use lib.IntN.{ℤ, pos, negsuc, negℤ, natAbs, _*ℤ_}
-use lib.Signed.{ltZ, leZ}
 use mir.Syntax.{w64}
-use mir.Val.{SFits, toZ, ofZ}
+use mir.Val.{SFits}
 use mir.Facts.{toZ-ofZ}
-
--- what is read back of a number's bits
-abbrev pub read : ℤ → ℤ
-read z = toZ w64 (ofZ w64 z)
+use Rattle.calibration.proofs.Tested.{read}
 
 abbrev pub minus : ℕ → ℤ
 minus n = negℤ (pos n)
@@ -44,20 +38,3 @@ size-product k (negsuc n) = size-minus (k * suc n)
 pub product-fits : (k : ℕ) (z : ℤ) → k * natAbs z < 2 ^ 63 → SFits w64 (pos k *ℤ z)
 product-fits k (pos n) h = pos-fits (k * n) h
 product-fits k (negsuc n) h = minus-fits (k * suc n) (omega arith)
-
--- a number tested against k lies below or above m
-pub below-least : (z : ℤ) {k m : ℕ} → ltZ z (negsuc k) ≡ true → m ≤ k → leZ (negsuc m) z ≡ false
-below-least (pos n) {k} {m} t h = let z : _≡_ {A = ℕ} 0 1 = cc in absurd (omega arith)
-below-least (negsuc n) {k} {m} t h = let l = ltb-true k n t in lt-leb n m (omega arith)
-
-pub from-least : (z : ℤ) {k m : ℕ} → ltZ z (negsuc k) ≡ false → k ≤ m → leZ (negsuc m) z ≡ true
-from-least (pos n) {k} {m} t h = refl
-from-least (negsuc n) {k} {m} t h = let l = ltb-false k n t in le-leb n m (omega arith)
-
-pub above-greatest : (z : ℤ) {k m : ℕ} → ltZ (pos k) z ≡ true → m ≤ k → leZ z (pos m) ≡ false
-above-greatest (pos n) {k} {m} t h = let l = ltb-true k n t in lt-leb n m (omega arith)
-above-greatest (negsuc n) {k} {m} t h = let z : _≡_ {A = ℕ} 0 1 = cc in absurd (omega arith)
-
-pub to-greatest : (z : ℤ) {k m : ℕ} → ltZ (pos k) z ≡ false → k ≤ m → leZ z (pos m) ≡ true
-to-greatest (pos n) {k} {m} t h = let l = ltb-false k n t in le-leb n m (omega arith)
-to-greatest (negsuc n) {k} {m} t h = refl

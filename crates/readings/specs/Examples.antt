@@ -6,12 +6,13 @@ use Prim.Native.Nat.{ℕ, _+_, _*_}
 use lib.IntN.{ℤ, pos, negsuc}
 use Rattle.refusals.specs.Stages.{require, orElse}
 use Rattle.refusals.specs.Ranges.{firstMisfit}
-use Rattle.refusals.specs.declared.Quantity.{Quantity}
 use Rattle.refusals.specs.declared.Quantity.the-variants.{Raw, Exponent, Fraction}
-use Rattle.refusals.specs.declared.Refusal.the-variants.{OutOfRange}
 use Rattle.channels.specs.declared.Attribute.{Attribute}
 use Rattle.channels.specs.declared.Place.the-variants.{Absent, Constant, Number}
-use Rattle.readings.specs.Thousandths.{Answer, value, absent, refused, uncalibrated, nearest, thousandths, numbers, scaledNumbers, readWhere, reading, readingBy, scaledReading, placeReading}
+use Rattle.calibration.specs.Reading as calibration
+use Rattle.calibration.specs.Reading.{value, absent, uncalibrated}
+use Rattle.calibration.specs.Naming.{outside}
+use Rattle.readings.specs.Thousandths.{Answer, nearest, thousandths, reading, placeReading}
 
 record Example : Type 0 where
   asked : Answer
@@ -27,10 +28,6 @@ scaling e f = record { given = true; number = pos (2048 * e + f) }
 
 abbrev none : ℤ → Attribute
 none number = record { given = false; number = number }
-
--- refusal 12, by the name of the number
-abbrev outside : Quantity → Answer
-outside name = refused (OutOfRange name)
 
 abbrev table : List Example
 table =
@@ -62,5 +59,5 @@ table =
     ∷ []
 
 pub examples : map (λ e. e .asked) table ≡ map (λ e. e .answer) table
-unfolding nearest thousandths numbers scaledNumbers firstMisfit orElse require readWhere reading readingBy scaledReading placeReading
+unfolding nearest thousandths calibration.numbers calibration.scaledNumbers firstMisfit orElse require calibration.readWhere calibration.reading calibration.readingBy calibration.scaledReading calibration.placeReading
 examples = refl

@@ -1,22 +1,13 @@
--- What follows for readings: each is the nearest whole number, the only one; the sign is kept; how far they reach; what a scaling value is taken apart into, and that it is read by that.
+-- What follows for readings: each is the nearest whole number, the only one; the sign is kept; how far they reach.
 use mathlib.Core.Path.{_≡_, refl, sym, ap, _∙_}
-use mathlib.Core.Logic.{by-cases}
-use mathlib.Core.Bool.{Bool, true, false, _&&_}
 use Prim.Native.Nat.{ℕ, zero, suc, _+_, _*_, _^_, _≤_, _<_}
 use native.Mathlib.Nat.{add-mul, mul-pos, mul-left-comm, mul-le-mul, mul-le-mul-left, div-lt-iff-lt-mul}
-use native.Mathlib.Decide.{decLt}
 use native.Mathlib.Omega.{arith}
-use lib.Dec.{leb, leb→le, le→leb, leb·zero}
+use lib.Dec.{leb→le, le→leb}
 use lib.IntN.{ℤ, pos, negsuc, negℤ, _*ℤ_, *ℤ-comm}
 use lib.Pow.{pow-pos}
-use lib.Signed.{leZ, _≤ℤ_}
-use borrow.Author.Tests.{lt-leb, le-leb}
-use Rattle.refusals.specs.Stages.{require, orElse}
-use Rattle.refusals.specs.Ranges.{firstMisfit}
-use Rattle.refusals.specs.declared.Quantity.the-variants.{Raw, Exponent}
-use Rattle.refusals.specs.declared.Refusal.the-variants.{OutOfRange}
-use Rattle.refusals.specs.declared.Judgement.the-variants.{Refused}
-use Rattle.readings.specs.Thousandths.{halfUp, nearest, numerator, denominator, thousandths, numbers, scaledNumbers, readWhere, reading, readingBy, exponentOf, fractionOf}
+use lib.Signed.{_≤ℤ_}
+use Rattle.readings.specs.Thousandths.{halfUp, nearest, numerator, denominator, thousandths}
 use Rattle.readings.specs.NearestLaws.{Nearest, nearest-is, nearest-only, nearest-opposite, times-opposite}
 
 -- ---- The number
@@ -83,34 +74,3 @@ ends (negsuc a) e f l h =
 pub ends-met : (thousandths (negsuc 32767) 0 0 ≡ negsuc 2147483647999) × (thousandths (pos 65535) 0 0 ≡ pos 4294901760000)
 unfolding thousandths nearest
 ends-met = (refl, refl)
-
--- ---- A scaling value
-
-pub taken-apart : (e f : ℕ) → f ≤ 2047 → (exponentOf (2048 * e + f) ≡ e) × (fractionOf (2048 * e + f) ≡ f)
-taken-apart e f h = omega arith
-
-pub put-together : (number : ℕ) → 2048 * exponentOf number + fractionOf number ≡ number
-put-together number = omega arith
-
--- it is from 0 to 65535 exactly where its E is to 31; its F is to 2047
-same-range : (number : ℕ) → leb number 65535 ≡ leb (exponentOf number) 31
-same-range number =
-    by-cases
-    (decLt 65535 number)
-    (λ h. lt-leb number 65535 h ∙ sym (lt-leb (exponentOf number) 31 (omega arith)))
-    (λ h. le-leb number 65535 (omega arith) ∙ sym (le-leb (exponentOf number) 31 (omega arith)))
-
--- so what is said by it is what is said by its E and F
-pub by-exponent-and-fraction : (raw : ℤ) (number : ℕ) → readingBy raw (pos number) ≡ reading raw (exponentOf number) (fractionOf number)
-unfolding readingBy reading scaledNumbers numbers firstMisfit orElse require
-by-exponent-and-fraction raw number = rw (leb·zero number, same-range number, le-leb (fractionOf number) 2047 (omega arith))
-
--- by one below zero, what is said by any E that is out of range
-refuses : (t : Bool) (z y : ℤ) → readWhere (orElse (require t (OutOfRange Raw)) (Refused (OutOfRange Exponent))) z ≡ readWhere (orElse (require t (OutOfRange Raw)) (Refused (OutOfRange Exponent))) y
-unfolding readWhere orElse require
-refuses true z y = refl
-refuses false z y = refl
-
-pub by-one-below-zero : (raw : ℤ) (n : ℕ) → readingBy raw (negsuc n) ≡ reading raw 32 0
-unfolding readingBy reading scaledNumbers numbers firstMisfit orElse require
-by-one-below-zero raw n = refuses (leZ (negsuc 32767) raw && leZ raw (pos 65535)) (thousandths raw (exponentOf (suc n)) (fractionOf (suc n))) (thousandths raw 32 0)

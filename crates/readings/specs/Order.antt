@@ -2,14 +2,13 @@
 use mathlib.Core.Path.{_≡_}
 use mathlib.Core.Logic.{_≢_}
 use Prim.Native.Nat.{ℕ, _+_, _*_, _^_, _≤_}
-use lib.IntN.{ℤ, natAbs}
+use lib.IntN.{ℤ}
 use lib.Signed.{_≤ℤ_}
 use Rattle.channels.specs.declared.Attribute.{Attribute}
 use Rattle.channels.specs.declared.Place.the-variants.{Number}
 use Rattle.readings.specs.declared.Reading.the-variants.{Thousandths}
 use Rattle.readings.specs.declared.PlaceReading.the-variants.{Present}
-use Rattle.readings.specs.Thousandths.{told, reading, exponentOf, fractionOf}
-use Rattle.readings.specs.Calibration.{Answers}
+use Rattle.readings.specs.Thousandths.{told, toldPlace, reading, placeReading}
 
 -- ---- What reads as what: the promise of each function, where its answer is a reading
 
@@ -19,7 +18,7 @@ ReadsAs e f raw x = told (Thousandths x) ≡ reading raw e f
 
 -- place_thousandths, of a number place and its channel's scaling value, answers `Present(Thousandths(x))`
 abbrev pub PlaceReadsAs : (scaling : Attribute) (raw x : ℤ) → Type 0
-PlaceReadsAs scaling raw x = Answers (Number raw) scaling (Present (Thousandths x))
+PlaceReadsAs scaling raw x = toldPlace (Present (Thousandths x)) ≡ placeReading (Number raw) scaling
 
 -- ---- The claims
 
@@ -36,10 +35,3 @@ KeepsApart reads = (raw other x y : ℤ) → raw ≢ other → reads raw x → r
 -- scale = (2048 + F) · 2^E over 2^27 is at most 1000
 abbrev pub AtMostThousand : (e f : ℕ) → Type 0
 AtMostThousand e f = (2048 + f) * 2 ^ e ≤ 1000 * 2 ^ 27
-
--- E and F of a channel's scaling value. By one below zero, or by one that is not given, nothing is read, whatever they are
-abbrev pub exponentBy : Attribute → ℕ
-exponentBy scaling = exponentOf (natAbs (scaling .number))
-
-abbrev pub fractionBy : Attribute → ℕ
-fractionBy scaling = fractionOf (natAbs (scaling .number))

@@ -1,26 +1,24 @@
 -- Order is kept by readings: a size is rounded by a division, whose quotient never falls where the dividend grows, and grows by one where that grows by the divisor.
 use mathlib.Core.Path.{_≡_, refl, sym, ap, _∙_}
 use mathlib.Core.Logic.{_≢_, by-cases}
-use mathlib.Core.Bool.{Bool, true, false, cond, _&&_}
 use Prim.Native.Nat.{ℕ, zero, suc, _+_, _*_, _^_, _≤_, _<_}
 use native.Mathlib.Nat.{add-mul, mul-pos, mul-left-comm, div-mul-le-self, le-div-iff-mul-le}
 use native.Mathlib.Decide.{decLt}
 use native.Mathlib.Omega.{arith}
 use lib.Dec.{leb→le, le→leb}
-use lib.IntN.{ℤ, pos, negsuc, negℤ, natAbs, pos-ne-negsuc}
+use lib.IntN.{ℤ, pos, negsuc, negℤ, pos-ne-negsuc}
 use lib.Pow.{pow-pos}
-use lib.Signed.{leZ, _≤ℤ_}
-use Rattle.formats.specs.Bytes.{impossible}
+use lib.Signed.{_≤ℤ_}
 use Rattle.channels.specs.declared.Attribute.{Attribute}
+use Rattle.channels.specs.declared.Place.the-variants.{Number}
 use Rattle.refusals.specs.Stages.{require, orElse}
 use Rattle.refusals.specs.Ranges.{firstMisfit}
-use Rattle.refusals.specs.declared.Quantity.the-variants.{Raw, Exponent}
-use Rattle.refusals.specs.declared.Refusal.the-variants.{OutOfRange}
-use Rattle.refusals.specs.declared.Judgement.{Judgement}
-use Rattle.refusals.specs.declared.Judgement.the-variants.{Passed, Refused}
-use Rattle.readings.specs.Thousandths.{value, uncalibrated, halfUp, nearest, denominator, thousandths, numbers, readWhere, reading, readingBy, scaledReading, placeReading, exponentOf, fractionOf}
-use Rattle.readings.specs.Laws.{thousandths-opposite, below, below-pos, by-exponent-and-fraction, by-one-below-zero}
-use Rattle.readings.specs.Order.{ReadsAs, PlaceReadsAs, KeepsOrder, KeepsApart, AtMostThousand, exponentBy, fractionBy}
+use Rattle.calibration.specs.Reading as calibration
+use Rattle.calibration.specs.Reading.{exponentBy, fractionBy}
+use Rattle.calibration.specs.Laws.{value-read, value-placed}
+use Rattle.readings.specs.Thousandths.{halfUp, nearest, denominator, thousandths}
+use Rattle.readings.specs.Laws.{thousandths-opposite, below, below-pos}
+use Rattle.readings.specs.Order.{ReadsAs, PlaceReadsAs, KeepsOrder, KeepsApart, AtMostThousand}
 
 -- ---- Quotients and signs
 
@@ -91,54 +89,30 @@ module _ (e f : ℕ) where
 
 -- ---- What to_thousandths answers
 
-answered : (e f : ℕ) (raw x : ℤ) → ReadsAs e f raw x → x ≡ thousandths raw e f
-unfolding reading readWhere
-answered e f raw x h = go (firstMisfit (numbers raw e f)) h
-  where
-    go : (j : Judgement) → value x ≡ readWhere j (thousandths raw e f) → x ≡ thousandths raw e f
-    go Passed k = cc
-    go (Refused refusal) k = impossible (cc)
+module _ (e f : ℕ) where
+  pub to-thousandths-keeps-order : KeepsOrder (ReadsAs e f)
+  to-thousandths-keeps-order raw other x y h p q = rw (value-read thousandths raw e f x p .is, value-read thousandths other e f y q .is) (order e f raw other h)
 
-pub to-thousandths-keeps-order : (e f : ℕ) → KeepsOrder (ReadsAs e f)
-to-thousandths-keeps-order e f raw other x y h p q = rw (answered e f raw x p, answered e f other y q) (order e f raw other h)
+  pub to-thousandths-keeps-apart : AtMostThousand e f → KeepsApart (ReadsAs e f)
+  to-thousandths-keeps-apart fine raw other x y h p q t = h (one-raw e f fine raw other (sym (value-read thousandths raw e f x p .is) ∙ t ∙ value-read thousandths other e f y q .is))
 
-pub to-thousandths-keeps-apart : (e f : ℕ) → AtMostThousand e f → KeepsApart (ReadsAs e f)
-to-thousandths-keeps-apart e f fine raw other x y h p q t = h (one-raw e f fine raw other (sym (answered e f raw x p) ∙ t ∙ answered e f other y q))
-
--- ---- What place_thousandths answers, of number places of one channel
-
--- they are read by one E and F; E 32 reads nothing
-never-read : (raw x : ℤ) → ReadsAs 32 0 raw x → ⊥
-unfolding reading numbers firstMisfit orElse require readWhere
-never-read raw x h = go (leZ (negsuc 32767) raw && leZ raw (pos 65535)) h
-  where
-    go : (t : Bool) → value x ≡ readWhere (orElse (require t (OutOfRange Raw)) (Refused (OutOfRange Exponent))) (thousandths raw 32 0) → ⊥
-    go true k = impossible (cc)
-    go false k = impossible (cc)
-
-by-one-scale : (scaling : Attribute) (raw x : ℤ) → PlaceReadsAs scaling raw x → ReadsAs (exponentBy scaling) (fractionBy scaling) raw x
-unfolding placeReading scaledReading
-by-one-scale scaling raw x h = go (scaling .given) (scaling .number) h
-  where
-    go : (given : Bool) (number : ℤ) → value x ≡ cond given (readingBy raw number) uncalibrated → value x ≡ reading raw (exponentOf (natAbs number)) (fractionOf (natAbs number))
-    go true (pos number) k = k ∙ by-exponent-and-fraction raw number
-    go true (negsuc number) k = absurd (never-read raw x (k ∙ by-one-below-zero raw number))
-    go false number k = impossible (cc)
+-- ---- What place_thousandths answers, of number places of one channel: they are read by one E and F
 
 module _ (scaling : Attribute) where
+  by-one-scale : (raw x : ℤ) → PlaceReadsAs scaling raw x → x ≡ thousandths raw (exponentBy scaling) (fractionBy scaling)
+  by-one-scale raw x h = value-placed thousandths (Number raw) scaling x h .is
+
   pub place-thousandths-keeps-order : KeepsOrder (PlaceReadsAs scaling)
-  place-thousandths-keeps-order raw other x y h p q =
-      to-thousandths-keeps-order (exponentBy scaling) (fractionBy scaling) raw other x y h (by-one-scale scaling raw x p) (by-one-scale scaling other y q)
+  place-thousandths-keeps-order raw other x y h p q = rw (by-one-scale raw x p, by-one-scale other y q) (order (exponentBy scaling) (fractionBy scaling) raw other h)
 
   pub place-thousandths-keeps-apart : AtMostThousand (exponentBy scaling) (fractionBy scaling) → KeepsApart (PlaceReadsAs scaling)
-  place-thousandths-keeps-apart fine raw other x y h p q =
-      to-thousandths-keeps-apart (exponentBy scaling) (fractionBy scaling) fine raw other x y h (by-one-scale scaling raw x p) (by-one-scale scaling other y q)
+  place-thousandths-keeps-apart fine raw other x y h p q t = h (one-raw (exponentBy scaling) (fractionBy scaling) fine raw other (sym (by-one-scale raw x p) ∙ t ∙ by-one-scale other y q))
 
 -- ---- The bound is sharp
 
 -- at E 25, F 1953, just above 1000, two neighbours share a reading
 pub neighbours-share : ReadsAs 25 1953 (pos 2000) (pos 2000) × ReadsAs 25 1953 (pos 2001) (pos 2000)
-unfolding reading numbers firstMisfit orElse require readWhere thousandths nearest
+unfolding calibration.reading calibration.numbers firstMisfit orElse require calibration.readWhere thousandths nearest
 neighbours-share = (refl, refl)
 
 -- at E 25, F 1952, just 1000, none do

@@ -1,18 +1,10 @@
--- A reading in thousandths: the stored value divided by the scaling value (7.3.4.3), as document 01 has it; without one there is none, as request L3 has it.
-use mathlib.Core.Bool.{cond, _&&_}
-use mathlib.Core.List.{List, [], _∷_}
-use Prim.Native.Nat.{ℕ, suc, _+_, _*_, _/_, _%_, _^_}
-use lib.IntN.{ℤ, pos, negsuc, negℤ, natAbs, _*ℤ_}
-use lib.Signed.{leZ}
-use lib.Dec.{leb}
-use Rattle.refusals.specs.Ranges.{Ranged, _fitsIf_, firstMisfit}
-use Rattle.refusals.specs.declared.Quantity.the-variants.{Raw, Exponent, Fraction}
-use Rattle.refusals.specs.declared.Refusal.{Refusal}
-use Rattle.refusals.specs.declared.Refusal.the-variants.{Uncalibrated}
-use Rattle.refusals.specs.declared.Judgement.{Judgement}
-use Rattle.refusals.specs.declared.Judgement.the-variants as judgement
+-- A reading in thousandths: the stored value divided by the scaling value (7.3.4.3), as document 01 has it.
+use Prim.Native.Nat.{ℕ, suc, _+_, _*_, _/_, _^_}
+use lib.IntN.{ℤ, pos, negsuc, negℤ, _*ℤ_}
 use Rattle.channels.specs.declared.Attribute.{Attribute}
-use Rattle.channels.specs.declared.Place as place
+use Rattle.channels.specs.declared.Place.{Place}
+use Rattle.calibration.specs.Reading as calibration
+use Rattle.calibration.specs.Reading.{value, absent, refused}
 use Rattle.readings.specs.declared.Reading.{Reading}
 use Rattle.readings.specs.declared.Reading.the-variants.{Thousandths, Refused}
 use Rattle.readings.specs.declared.PlaceReading as placed
@@ -39,62 +31,18 @@ denominator e f = (2048 + f) * 2 ^ e
 unfoldable pub thousandths : ℤ → ℕ → ℕ → ℤ
 thousandths raw e f = nearest (numerator raw) (denominator e f)
 
--- ---- The numbers that it is made of, in the order in which they are judged (request L2)
+-- ---- The answer: that of `calibration`, whose division gives thousandths
 
--- raw is from -32768 to 65535
-abbrev pub rawNumber : ℤ → Ranged
-rawNumber raw = Raw fitsIf (leZ (negsuc 32767) raw && leZ raw (pos 65535))
-
--- E is to 31, F to 2047
-unfoldable pub numbers : (raw : ℤ) (e f : ℕ) → List Ranged
-numbers raw e f = rawNumber raw ∷ (Exponent fitsIf leb e 31) ∷ (Fraction fitsIf leb f 2047) ∷ []
-
--- a scaling value is one number, 2048 · E + F, from 0 to 65535: what is out of that range is named E
-unfoldable pub scaledNumbers : (raw number : ℤ) → List Ranged
-scaledNumbers raw number = rawNumber raw ∷ (Exponent fitsIf (leZ (pos 0) number && leZ number (pos 65535))) ∷ []
-
--- ---- The answer
-
-pub data Answer : Type 0 where
-  value : ℤ → Answer
-  absent : Answer
-  refused : Refusal → Answer
-
--- a channel whose calibration is unknown, refusal 20
-abbrev pub uncalibrated : Answer
-uncalibrated = refused Uncalibrated
-
--- the reading, where no number is out of its range
-unfoldable pub readWhere : Judgement → ℤ → Answer
-readWhere judgement.Passed z = value z
-readWhere (judgement.Refused refusal) z = refused refusal
+abbrev pub Answer : Type 0
+Answer = calibration.Answer ℤ
 
 -- to_thousandths
-unfoldable pub reading : ℤ → ℕ → ℕ → Answer
-reading raw e f = readWhere (firstMisfit (numbers raw e f)) (thousandths raw e f)
+abbrev pub reading : (raw : ℤ) (e f : ℕ) → Answer
+reading = calibration.reading thousandths
 
--- ---- A place of a point
-
--- E and F of a scaling value
-abbrev pub exponentOf : ℕ → ℕ
-exponentOf number = number / 2048
-
-abbrev pub fractionOf : ℕ → ℕ
-fractionOf number = number % 2048
-
--- by one that is in its range, which has no sign
-unfoldable pub readingBy : ℤ → ℤ → Answer
-readingBy raw number = readWhere (firstMisfit (scaledNumbers raw number)) (thousandths raw (exponentOf (natAbs number)) (fractionOf (natAbs number)))
-
--- "If the value of the scaling factor is absent, the calibration of the channel is taken to be unknown" (7.3.4.3): neither raw nor a number without its flag is looked at
-unfoldable pub scaledReading : ℤ → Attribute → Answer
-scaledReading raw scaling = cond (scaling .given) (readingBy raw (scaling .number)) uncalibrated
-
--- place_thousandths: absent stays absent, whatever the scaling value; a constant channel is read as raw 1
-unfoldable pub placeReading : place.Place → Attribute → Answer
-placeReading place.the-variants.Absent scaling = absent
-placeReading place.the-variants.Constant scaling = scaledReading (pos 1) scaling
-placeReading (place.the-variants.Number raw) scaling = scaledReading raw scaling
+-- place_thousandths
+abbrev pub placeReading : (place : Place) (scaling : Attribute) → Answer
+placeReading = calibration.placeReading thousandths
 
 -- ---- What the code's answers say
 

@@ -6,6 +6,7 @@ use crate::body_examples::BODY_UNREADABLE;
 use crate::columns_examples::COLUMNS_UNREADABLE;
 use crate::compare::Comparison;
 use crate::description::{Description, Format};
+use crate::double_examples::DOUBLE_UNREADABLE;
 use crate::examples::UNREADABLE;
 use crate::inputs;
 use crate::questions;
@@ -18,7 +19,12 @@ const SPELLED: &str = "lines spelled oddly";
 const INPUTS: &str = "whole inputs: long lines, last lines, empty lines";
 
 pub fn ask_all(comparison: &mut Comparison, random: &mut Random) {
-    let unreadable = [UNREADABLE, COLUMNS_UNREADABLE, BODY_UNREADABLE];
+    let unreadable = [
+        UNREADABLE,
+        COLUMNS_UNREADABLE,
+        BODY_UNREADABLE,
+        DOUBLE_UNREADABLE,
+    ];
     for (line, answer) in unreadable.into_iter().flatten() {
         comparison.ask_typed(TYPED, line, answer);
     }
@@ -51,7 +57,8 @@ fn limits(comparison: &mut Comparison) {
     comparison.ask_typed(TYPED, "turn 131072 131072 53 45", &answer);
 }
 
-/// A short question of any of the nineteen sorts, now and then with a mark.
+/// A short question of any of the nineteen sorts that are not of request L6, now and then with a
+/// mark. Those two are spelled and changed in `doubles`.
 fn any_question(random: &mut Random) -> String {
     let parts = inputs::small_parts(random);
     let bytes = inputs::bytes(&parts);
@@ -136,13 +143,18 @@ fn any_place(random: &mut Random, template: Template) -> String {
 fn spelled(comparison: &mut Comparison, random: &mut Random) {
     for _ in 0..comparison.amount(3000) {
         let line = any_question(random);
-        let mut odd: Vec<u8> = blanks(random, 0).into();
-        for word in line.split(' ') {
-            odd.extend(spell_word(random, word));
-            odd.extend(blanks(random, 1).bytes());
-        }
+        let odd = spell_line(random, &line);
         comparison.ask(SPELLED, odd);
     }
+}
+
+pub fn spell_line(random: &mut Random, line: &str) -> Vec<u8> {
+    let mut odd: Vec<u8> = blanks(random, 0).into();
+    for word in line.split(' ') {
+        odd.extend(spell_word(random, word));
+        odd.extend(blanks(random, 1).bytes());
+    }
+    odd
 }
 
 fn blanks(random: &mut Random, least: usize) -> String {
@@ -172,19 +184,25 @@ fn spell_word(random: &mut Random, word: &str) -> Vec<u8> {
     spelled
 }
 
-/// A line with one to three changes of letters or words.
 fn changed(comparison: &mut Comparison, random: &mut Random) {
     for _ in 0..comparison.amount(14000) {
-        let mut line = any_question(random).into_bytes();
-        for _ in 0..1 + random.below(3) {
-            if random.one_in(3) {
-                change_words(random, &mut line);
-            } else {
-                change_letter(random, &mut line);
-            }
-        }
+        let line = any_question(random);
+        let line = change_line(random, line);
         comparison.ask(CHANGED, line);
     }
+}
+
+/// A line with one to three changes of letters or words.
+pub fn change_line(random: &mut Random, line: String) -> Vec<u8> {
+    let mut line = line.into_bytes();
+    for _ in 0..1 + random.below(3) {
+        if random.one_in(3) {
+            change_words(random, &mut line);
+        } else {
+            change_letter(random, &mut line);
+        }
+    }
+    line
 }
 
 /// Letters that mean something in a question, and some that mean nothing; no line feed.

@@ -5,6 +5,7 @@ mod bodies;
 mod calibration;
 mod columns;
 mod damage;
+mod doubles;
 mod files;
 mod joined;
 mod lines;
@@ -27,7 +28,7 @@ use crate::random::Random;
 
 pub fn everything(comparison: &mut Comparison, seed: u64) {
     examples::ask_all(comparison);
-    let sorts: [fn(&mut Comparison, &mut Random); 18] = [
+    let sorts: [fn(&mut Comparison, &mut Random); 19] = [
         records::ask_all,
         damage::ask_all,
         joined::ask_all,
@@ -46,6 +47,7 @@ pub fn everything(comparison: &mut Comparison, seed: u64) {
         marks::ask_all,
         bodies::ask_all,
         turning::ask_all,
+        doubles::ask_all,
     ];
     for (number, ask_all) in sorts.into_iter().enumerate() {
         // Each sort has a seed of its own, so that a change in one leaves the others.

@@ -4,7 +4,7 @@
 
 pub mod attributes;
 pub mod check;
-mod readings;
+pub mod readings;
 pub mod values;
 
 use super::writes::ENDS;

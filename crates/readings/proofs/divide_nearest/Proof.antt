@@ -12,7 +12,8 @@ use mir.Syntax.{w64}
 use mir.Val.{SFits, ofZ}
 use mir.Facts.{toZ-ofZ}
 use Rattle.readings.specs.Thousandths.{halfUp, nearest}
-use Rattle.readings.proofs.Held.{read, minus, pos-fits, minus-fits, fits-as, read-as}
+use Rattle.calibration.proofs.Tested.{read}
+use Rattle.readings.proofs.Held.{minus, pos-fits, minus-fits, fits-as, read-as}
 use Rattle.readings.proofs.divide_nearest.Statement.{statement}
 use Rattle.readings.proofs.divide_nearest.Tie as tie
 

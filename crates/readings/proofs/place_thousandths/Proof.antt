@@ -1,65 +1,58 @@
--- `readings::place_thousandths` meets its contract: by the place's variant; a number of 32 bits is the same number in 64. Assumes nothing.
-use native.Mathlib.Omega.{arith}
+-- `readings::place_thousandths` meets its contract: to read a place is to divide its operands, which are in their ranges. Assumes nothing.
+use mathlib.Core.Path.{_≡_, sym, ap, _∙_, subst}
 use borrow.Author.Needs.{needs, sfits-of}
-use lib.IntN.{ℤ, pos, negsuc}
-use mir.Syntax.{w32, w64}
+use lib.IntN.{ℤ}
+use mir.Syntax.{w64}
 use mir.Val.{SFits}
-use mir.ValLaws.{toZ-ofZ}
-use Rattle.readings.specs.Thousandths.{placeReading}
+use mir.Facts.{toZ-ofZ}
+use Rattle.calibration.specs.Reading as calibration
+use Rattle.calibration.specs.Laws as laws
+use Rattle.readings.specs.Thousandths.{thousandths}
 use Rattle.readings.proofs.place_thousandths.Statement.{statement}
 use Rattle.readings.proofs.place_thousandths.Tie as tie
 
-wider : (z : ℤ) → SFits w32 z → SFits w64 z
-wider (pos n) h = let k = h .sfits in record { sfits = omega arith }
-wider (negsuc n) h = let k = h .sfits in record { sfits = omega arith }
-
--- the number of a place
-raw-fits : (c : tie.After-known-told) → SFits w32 (c .before .place .given .0 .0)
-raw-fits c = sfits-of {w = w32} (c .known-told .given .0 .1)
+calibrate-requires : tie.Need-calibrate-requires
+calibrate-requires c κs = search needs
 
 enum-told : tie.Need-enum-told
 enum-told c = search needs
 
-enum-told-2 : tie.Need-enum-told-2
-enum-told-2 c = search needs
+enum-known-refusal : tie.Need-enum-known-refusal
+enum-known-refusal c = search needs
 
-scaled-reading-requires : tie.Need-scaled-reading-requires
-scaled-reading-requires c κs = search needs
+enum-known-scaled : tie.Need-enum-known-scaled
+enum-known-scaled c = search needs
 
-enum-known-place : tie.Need-enum-known-place
-enum-known-place c = search needs
-
-cast-scaled-reading : tie.Need-cast-scaled-reading
-cast-scaled-reading c = rw (toZ-ofZ w32 _ (raw-fits c)) (wider _ (raw-fits c))
-
-scaled-reading-requires-2 : tie.Need-scaled-reading-requires-2
-scaled-reading-requires-2 c κs = search needs
+-- what the call answers, divided
+divided : (c : tie.After-calibrate) → laws.divide thousandths (calibration.told (c .calibrate .result)) ≡ calibration.placeReading thousandths (c .before .args .place) (c .before .args .scaling)
+divided c = ap (laws.divide thousandths) (c .calibrate .ensures) ∙ laws.divided-placed thousandths (c .before .args .place) (c .before .args .scaling)
 
 returns : tie.Need-returns
-unfolding placeReading
-returns c = rw (c .enum-told .given .1)
+unfolding laws.divide
+returns c = rw (c .enum-told .given .1) at (divided (c .before .before))
 
 returns-2 : tie.Need-returns-2
-unfolding placeReading
-returns-2 c = rw (c .before .enum-told2 .given .1) (c .scaled-reading .ensures)
+unfolding laws.divide
+returns-2 c = rw (c .before .refusal .given .1) at (divided (c .before .before .before))
+
+-- the operands of a place that has any: raw fits its word
+fits : (c : tie.After-struct-told) → SFits w64 (c .before .before .scaled .given .0 .0 .raw)
+fits c = search needs
+
+divide-requires : tie.Need-divide-requires
+divide-requires c κs =
+    let k = c .before .before in
+    let b = k .before .before in
+    let s = b .before in
+    rw (toZ-ofZ (fits c)) (laws.operands-in-range (s .args .place) (s .args .scaling) (k .scaled .given .0 .0) (rw (k .scaled .given .1) at (b .calibrate .ensures)))
 
 returns-3 : tie.Need-returns-3
-unfolding placeReading
+unfolding laws.divide
 returns-3 c =
-    let raw = c .before .before .place .given .0 .0 in
-    let f = raw-fits (c .before) in
-    rw (c .before .before .place .given .1) (rw (toZ-ofZ w32 raw f, toZ-ofZ w64 raw (wider raw f)) at (c .scaled-reading2 .ensures))
+    let k = c .before .before .before in
+    let t = k .scaled .given .0 .0 in
+    let r = toZ-ofZ (sfits-of {w = w64} (c .divide .ok)) ∙ c .divide .ensures ∙ ap (λ (z : ℤ). thousandths z (t .exponent) (t .fraction)) (toZ-ofZ (fits (c .before))) in
+    ap calibration.value r ∙ (rw (k .scaled .given .1) at (divided (k .before .before)))
 
 pub place-thousandths-spec : {M : Type 1} → statement M
-place-thousandths-spec =
-    tie.close
-    (tie.spec
-    enum-told
-    enum-told-2
-    scaled-reading-requires
-    enum-known-place
-    cast-scaled-reading
-    scaled-reading-requires-2
-    returns
-    returns-2
-    returns-3)
+place-thousandths-spec = tie.close (tie.spec calibrate-requires enum-told enum-known-refusal enum-known-scaled divide-requires returns returns-2 returns-3)

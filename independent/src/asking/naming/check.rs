@@ -71,12 +71,12 @@ fn stages(question: &str) -> Option<Vec<Stage>> {
             stages
         }
         ["write-template", maximum, _, ref channels @ ..] => of_template(maximum, channels),
-        ["thousandths", raw, e, f] => {
+        ["thousandths" | "double", raw, e, f] => {
             let (raw, e) = (number("raw", raw, RAWS), number("E", e, ES));
             vec![raw, e, number("F", f, FS)]
         }
-        ["place", ".", _] => Vec::new(),
-        ["place", place, scaling] => {
+        ["place" | "double-place", ".", _] => Vec::new(),
+        ["place" | "double-place", place, scaling] => {
             let raw = if place == "-" { "1" } else { place };
             let unknown = stage("20", scaling.starts_with('!'));
             let scaling = number("E", scaling, SCALINGS[0]);
@@ -220,13 +220,37 @@ const OF_COLUMNS: [Claim; 3] = [
     ),
 ];
 
+/// The same of `double` and `double-place` (request L6).
+const OF_DOUBLES: [Claim; 3] = [
+    (
+        "doubles: numbers named by 12",
+        "the number named stands in the question with its flag and is out of its range",
+    ),
+    (
+        "doubles: numbers before the one named",
+        "what is judged before the number named is good: raw, then E, then F",
+    ),
+    (
+        "doubles: answers that name no number",
+        "what is answered is so, and no number judged before it is out of its range",
+    ),
+];
+
+/// The claims that are judged on the answer to a question.
+fn claims_of(question: &[u8]) -> [Claim; 3] {
+    if question.starts_with(b"write-columns ") {
+        OF_COLUMNS
+    } else if question.starts_with(b"double") {
+        OF_DOUBLES
+    } else {
+        [NAMED, FIRST, UNNAMED]
+    }
+}
+
 /// The claims on one answer.
 pub fn judge(comparison: &mut Comparison, answered: &Answered) {
     let said = refusal(answered);
-    let [named, first, unnamed] = match answered.question.starts_with(b"write-columns ") {
-        true => OF_COLUMNS,
-        false => [NAMED, FIRST, UNNAMED],
-    };
+    let [named, first, unnamed] = claims_of(&answered.question);
     let mut claim = |claim, holds| comparison.claim(claim, &[answered], holds);
     let Some(stages) = stages(&text(&answered.question)) else {
         // Nothing is known of such a question, so nothing can be said for its answer.
@@ -266,9 +290,15 @@ pub fn refusal(answered: &Answered) -> Option<String> {
 /// Whether the answer is one behind which nothing is judged any more.
 fn is_done(answered: &Answered) -> bool {
     let answer = text(answered.theirs.as_deref().unwrap_or_default());
-    ["written ", "refused 15 ", "thousandths ", "absent"]
-        .iter()
-        .any(|begin| answer.starts_with(begin))
+    [
+        "written ",
+        "refused 15 ",
+        "thousandths ",
+        "double ",
+        "absent",
+    ]
+    .iter()
+    .any(|begin| answer.starts_with(begin))
 }
 
 fn text(bytes: &[u8]) -> String {

@@ -32,14 +32,21 @@ const RAWS: [i64; 10] = [
 const ES: [i64; 8] = [0, 16, 31, 32, 64, 256, 4_294_967_296, ANY.1];
 const FS: [i64; 7] = [0, 2047, 2048, 4096, 65536, 4_294_967_296, ANY.1];
 
-/// Every subset of raw, E and F outside, then any.
-fn numbers(comparison: &mut Comparison, random: &mut Random) {
-    let mut lines = Vec::new();
+/// Every subset of raw, E and F outside.
+pub fn every_subset() -> Vec<[i64; 3]> {
+    let mut every = Vec::new();
     for raw in RAWS {
         for e in ES {
-            lines.extend(FS.map(|f| format!("thousandths {raw} {e} {f}")));
+            every.extend(FS.map(|f| [raw, e, f]));
         }
     }
+    every
+}
+
+/// Every subset of raw, E and F outside, then any.
+fn numbers(comparison: &mut Comparison, random: &mut Random) {
+    let line = |[raw, e, f]: [i64; 3]| format!("thousandths {raw} {e} {f}");
+    let mut lines: Vec<String> = every_subset().into_iter().map(line).collect();
     for _ in 0..comparison.amount(2000) {
         let raw = inputs::number(random, (-32768 - 20_000, 65535 + 20_000));
         let (e, f) = (random.between(0, 45), random.between(0, 3000));
@@ -48,9 +55,9 @@ fn numbers(comparison: &mut Comparison, random: &mut Random) {
     try_all(comparison, NUMBERS, &lines);
 }
 
-const PLACE_WORDS: &str =
+pub const PLACE_WORDS: &str =
     ". - -2147483648 -65536 -32769 -32768 -1 0 5 32768 65535 65536 70000 2147483647";
-const SCALINGS: [i64; 12] = [
+pub const SCALINGS: [i64; 12] = [
     -2_147_483_648,
     -65536,
     -2048,
