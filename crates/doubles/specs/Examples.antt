@@ -40,15 +40,15 @@ greatest = record { word = lit< tt; number = lit< tt; equal = refl }
 
 -- ---- Readings
 
-record Example : Type 0 where
-  asked : ℕ
-  answer : ℕ
+record Example (A : Type 0) : Type 0 where
+  asked : A
+  answer : A
 
 infix 20 _is_
-abbrev _is_ : ℕ → ℕ → Example
+abbrev _is_ : {A : Type 0} → A → A → Example A
 asked is answer = record { asked = asked; answer = answer }
 
-abbrev table : List Example
+abbrev table : List (Example ℕ)
 table =
     (bitsOf (quotient (pos 512) 26 0) is 0x3fe0_0000_0000_0000)  -- 0.5
     ∷ (bitsOf (quotient (pos 1) 16 0) is 0x3ff0_0000_0000_0000)  -- 1.0
@@ -69,14 +69,6 @@ examples = refl
 
 -- ---- Answers
 
-record Answered : Type 0 where
-  asked : Answer
-  answer : Answer
-
-infix 20 _gives_
-abbrev _gives_ : Answer → Answer → Answered
-asked gives answer = record { asked = asked; answer = answer }
-
 abbrev double : ℕ → Answer
 double bits = value (ofBits binary64 bits)
 
@@ -87,21 +79,21 @@ scaling e f = record { given = true; number = pos (2048 * e + f) }
 abbrev none : Attribute
 none = record { given = false; number = pos 7 }
 
-abbrev answers : List Answered
+abbrev answers : List (Example Answer)
 answers =
-    (reading (pos 1) 26 1952 gives double 0x3f40_624d_d2f1_a9fc)
-    ∷ (reading (pos 65536) 0 0 gives outside Raw)  -- the ranges' ends
-    ∷ (reading (negsuc 32768) 0 0 gives outside Raw)
-    ∷ (reading (pos 1) 32 0 gives outside Exponent)
-    ∷ (reading (pos 1) 0 2048 gives outside Fraction)
-    ∷ (placeReading Absent none gives absent)  -- places
-    ∷ (placeReading Constant (scaling 26 1952) gives double 0x3f40_624d_d2f1_a9fc)
-    ∷ (placeReading (Number (negsuc 0)) (scaling 16 0) gives double 0xbff0_0000_0000_0000)
-    ∷ (placeReading (Number (pos 0)) (scaling 26 1952) gives double 0)
-    ∷ (placeReading (Number (pos 65536)) (scaling 16 0) gives outside Raw)
-    ∷ (placeReading (Number (pos 1)) (record { given = true; number = negsuc 0 }) gives outside Exponent)
-    ∷ (placeReading Constant none gives uncalibrated)
-    ∷ (placeReading (Number (pos 65536)) none gives uncalibrated)
+    (reading (pos 1) 26 1952 is double 0x3f40_624d_d2f1_a9fc)
+    ∷ (reading (pos 65536) 0 0 is outside Raw)  -- the ranges' ends
+    ∷ (reading (negsuc 32768) 0 0 is outside Raw)
+    ∷ (reading (pos 1) 32 0 is outside Exponent)
+    ∷ (reading (pos 1) 0 2048 is outside Fraction)
+    ∷ (placeReading Absent none is absent)  -- places
+    ∷ (placeReading Constant (scaling 26 1952) is double 0x3f40_624d_d2f1_a9fc)
+    ∷ (placeReading (Number (negsuc 0)) (scaling 16 0) is double 0xbff0_0000_0000_0000)
+    ∷ (placeReading (Number (pos 0)) (scaling 26 1952) is double 0)
+    ∷ (placeReading (Number (pos 65536)) (scaling 16 0) is outside Raw)
+    ∷ (placeReading (Number (pos 1)) (record { given = true; number = negsuc 0 }) is outside Exponent)
+    ∷ (placeReading Constant none is uncalibrated)
+    ∷ (placeReading (Number (pos 65536)) none is uncalibrated)
     ∷ []
 
 pub answered : map (λ e. e .asked) answers ≡ map (λ e. e .answer) answers

@@ -1,5 +1,4 @@
 -- The nearest double: of all numbers that doubles are, the one nearest to a fraction, by its bits and over whole numbers.
-use mathlib.Core.Path.{_≡_}
 use mathlib.Core.Logic.{_≢_}
 use Prim.Native.Nat.{ℕ, _^_, _<_}
 use lib.IntN.{ℤ, pos, natAbs, _*ℤ_, _-ℤ_}

@@ -5,7 +5,6 @@ ghost use Rattle.calibration.specs.Reading.{InRange};
 ghost use Rattle.doubles.specs.Quotient.{scaleDouble, Quotient};
 ghost use Rattle.doubles.specs.Reading.{told, toldPlace, Exactly, PlacedExactly, reading, placeReading};
 use calibration::Calibrated;
-use calibration::Scaled;
 use channels::Attribute;
 use channels::Place;
 use refusals::Judgement;

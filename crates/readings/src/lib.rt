@@ -6,7 +6,6 @@ ghost use lib.Signed.{_<ℤ_};
 ghost use Rattle.calibration.specs.Reading.{InRange};
 ghost use Rattle.readings.specs.Thousandths.{nearest, denominator, thousandths, told, toldPlace, reading, placeReading};
 use calibration::Calibrated;
-use calibration::Scaled;
 use channels::Attribute;
 use channels::Place;
 use refusals::Judgement;

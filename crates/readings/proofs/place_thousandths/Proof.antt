@@ -1,5 +1,5 @@
 -- `readings::place_thousandths` meets its contract: to read a place is to divide its operands, which are in their ranges. Assumes nothing.
-use mathlib.Core.Path.{_≡_, sym, ap, _∙_, subst}
+use mathlib.Core.Path.{_≡_, ap, _∙_}
 use borrow.Author.Needs.{needs, sfits-of}
 use lib.IntN.{ℤ}
 use mir.Syntax.{w64}

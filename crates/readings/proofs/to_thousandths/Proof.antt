@@ -6,7 +6,7 @@ use mir.Syntax.{w64}
 use mir.Facts.{toZ-ofZ}
 use Rattle.refusals.specs.Ranges.{firstMisfit}
 use Rattle.calibration.specs.Reading as calibration
-use Rattle.calibration.specs.Reading.{numbers, value, InRange}
+use Rattle.calibration.specs.Reading.{numbers, value}
 use Rattle.calibration.specs.Laws.{passed-in-range}
 use Rattle.readings.specs.Thousandths.{thousandths}
 use Rattle.readings.proofs.to_thousandths.Statement.{statement}
