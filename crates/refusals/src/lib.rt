@@ -24,7 +24,7 @@ pub enum Quantity {
     Count, // of points
     Value { index: usize, channel: usize }, // of a sample point, by its index among the values
     Maximum, // of points, in a template
-    Raw, // what is to be read in thousandths
+    Raw, // the number that is divided for a reading
     Exponent, // E of a scaling value
     Fraction, // F of one
     ExtendedData, // which a compact body has no place for, even where they have no byte
