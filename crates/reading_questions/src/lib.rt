@@ -7,8 +7,6 @@ ghost use Rattle.doubles.specs.Reading.{IsNumber};
 use channels::Attribute;
 use channels::Place;
 
-// ---- What is asked
-
 // A raw number, E and F; or why they could not be read.
 struct Asked {
     reason: usize,
@@ -50,8 +48,6 @@ fn place_asked_at(line: &[u8], at: usize) -> PlaceAsked {
     }
 }
 
-// ---- In thousandths
-
 fn put_thousandths(text: &mut [u8; 65536], start: u16, reading: readings::Reading) -> u16 {
     match reading {
         readings::Reading::Thousandths(value) => {
@@ -88,8 +84,6 @@ pub fn place(text: &mut [u8; 65536], used: u16, line: &[u8], at: usize) -> u16 {
         readings::PlaceReading::Present(reading) => put_thousandths(text, used, reading),
     }
 }
-
-// ---- As doubles
 
 // The 64 bits of a number. Only a NaN's can't be asked for.
 fn bits_of(number: f64) -> u64
