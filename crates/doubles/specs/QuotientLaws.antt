@@ -1,10 +1,10 @@
 -- The quotient is the exact fraction rounded once, for every F; where F is zero nothing is lost, since a division by a power of two moves no digit out of a double's range.
-use mathlib.Core.Path.{_≡_, refl, sym, ap, _∙_, subst}
+use mathlib.Core.Path.{_≡_, refl, sym, ap, ap₂, _∙_, subst}
 use mathlib.Core.Bool.{Bool, true, false, cond}
-use Prim.Native.Nat.{ℕ, zero, suc, _+_, _-_, _*_, _/_, _%_, _^_, _≤_, _<_, compare}
-use native.Mathlib.Nat.{mul-assoc, mul-comm, mul-mul-mul-comm, mul-pos, mul-one, zero-mul, lt-of-lt-of-le, lt-of-le-of-lt, le-trans, lt-irrefl, mul-le-mul, div-le-self, div-div-eq-div-mul}
+use Prim.Native.Nat.{ℕ, _+_, _-_, _*_, _/_, _%_, _^_, _≤_, _<_, compare}
+use native.Mathlib.Nat.{mul-assoc, mul-comm, mul-mul-mul-comm, mul-pos, mul-one, zero-mul, lt-of-lt-of-le, lt-of-le-of-lt, le-trans, lt-irrefl, mul-le-mul, div-le-self, div-div-eq-div-mul, eq-of-mul-eq-mul-right}
 use native.Mathlib.Omega.{arith}
-use borrow.Author.Tests.{ne-eqb, leb-false}
+use borrow.Author.Tests.{ne-eqb}
 use lib.Dec.{T, eqb, lit<}
 use lib.IntN.{ℤ, pos, natAbs, _*ℤ_}
 use lib.Pow.{pow-add, pow-pos, pow-mono, shl-lt}
@@ -12,11 +12,13 @@ use lib.Ieee.{Float, nan, inf, fin, binary64, unlike, up, down, round, div, toBi
 use lib.Ieee.Fits.{down-pos, nearest-le, kept-lt, round-is, div-fits}
 use lib.Ieee.Digits.{size-le}
 use lib.Ieee.Exact.{HasValue, units-val, round-exact}
+use lib.Ieee.Bits.{toBits-lt}
 use lib.Ieee.Order.{drop, kept}
 use lib.Ieee.Scale.{round-same, grid}
 use lib.Ieee.Positive.{first-pos}
 use Rattle.calibration.specs.Reading.{InRange}
-use Rattle.doubles.specs.Double.{exponent, digits, sizeBy, size, Is}
+use Rattle.doubles.specs.Double.{sizeBy, size, signed, Is}
+use Rattle.doubles.specs.DoubleLaws.{same-bits}
 use Rattle.doubles.specs.ValueLaws.{times, Worth, as-fraction, is-sized, is-worth}
 use Rattle.doubles.specs.Quotient.{bitsOf, rawDouble, scaleDouble, negative, quotient}
 use Rattle.doubles.specs.OperandLaws.{by-sign, raw-worth, scale-worth}
@@ -103,24 +105,13 @@ by-power s a e h he =
 
 -- ---- Where raw is zero
 
-zero-size : (x d : ℕ) → sizeBy x d ≡ 0 → (x ≡ 0) × (d ≡ 0)
-unfolding sizeBy
-zero-size zero d h = (refl, h)
-zero-size (suc x) d h = absurd (lt-irrefl 0 (subst (λ (n : ℕ). 0 < n) h (mul-pos (omega arith) (pow-pos x))))
-
-no-bits : (b : ℕ) → b < 2 ^ 63 → exponent b ≡ 0 → digits b ≡ 0 → b ≡ 0
-no-bits b h x d = omega arith
-
-zero-product : (n c : ℕ) → 0 < c → n * c ≡ 0 → n ≡ 0
-zero-product zero c C h = refl
-zero-product (suc n) c C h = absurd (lt-irrefl 0 (subst (λ (k : ℕ). 0 < k) h (mul-pos (omega arith) C)))
-
 plus-zero-bits : {x : Float} {c : ℕ} → 0 < c → T (fits binary64 x) → Worth x false 0 c → bitsOf x ≡ 0
+unfolding sizeBy
 plus-zero-bits {x} {c} C f v =
     let b = toBits binary64 x in
     let k = is-sized f v in
-    let z = zero-size (exponent b) (digits b) (zero-product (size b) c C (k .1)) in
-    no-bits b (leb-false (2 ^ 63) b (k .0)) (z .0) (z .1)
+    let z : size b ≡ 0 = eq-of-mul-eq-mul-right c C (size b) 0 (k .1 ∙ zero-mul (2 ^ 1074) ∙ sym (zero-mul c)) in
+    same-bits b 0 (toBits-lt binary64 x f) (lit< tt) (k .0) (ap₂ signed (k .0) z)
 
 zero-worth : (d : ℕ) → 0 < d → Worth (round binary64 false 0 d) false 0 d
 zero-worth d D = record { worth = round-exact binary64 false 0 d 0 0 D (pow-pos 53) (pow-pos 2098) (sym (zero-mul d)) }
