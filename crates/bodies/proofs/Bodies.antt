@@ -12,7 +12,7 @@ use lib.Dec.{ltb}
 use lib.IntN.{ℤ}
 use lib.ListN.{length}
 use Rattle.formats.specs.Bytes.{impossible}
-use Rattle.formats.specs.Reader.{Answer, ok, short, bad, run, readAt, times}
+use Rattle.formats.specs.Reader.{Answer, ok, short, bad, run, read_at, times}
 use Rattle.formats.specs.Compose.{at-start}
 use Rattle.formats.specs.Fixed.{times-length}
 use Rattle.formats.specs.Told.{told, told-done, told-failed, failed}
@@ -20,15 +20,15 @@ use Rattle.formats.specs.declared.Failure.{Failure}
 use Rattle.formats.specs.declared.Failure.TheVariants as failure
 use Rattle.formats.specs.declared.Outcome.{Outcome}
 use Rattle.formats.specs.declared.Outcome.TheVariants.{Done, Failed}
-use Rattle.refusals.specs.Table.{refusalOf}
+use Rattle.refusals.specs.Table.{refusal_of}
 use Rattle.refusals.specs.declared.Refusal.{Refusal}
 use Rattle.refusals.specs.declared.Refusal.TheVariants.{LeftOver, NoPoint, Maximum}
 use Rattle.refusals.specs.declared.Judgement.TheVariants as judgement
 use Rattle.channels.specs.declared.Description.{Description}
 use Rattle.points.specs.Points.{point, width}
 use Rattle.templates.specs.declared.Judged as templates
-use Rattle.bodies.specs.Body.{begun, pointsIn}
-use Rattle.bodies.specs.Reading.{ruled, ruleOf, exceeds, verdictBy, verdictOf, unjudged, described, judgedBy, pointedAt, pointedBy}
+use Rattle.bodies.specs.Body.{begun, points_in}
+use Rattle.bodies.specs.Reading.{ruled, rule_of, exceeds, verdict_by, verdict_of, unjudged, described, judged_by, pointed_at, pointed_by}
 use Rattle.bodies.specs.DemandLaws.{said_of}
 use Rattle.bodies.specs.declared.Rule.{Rule}
 use Rattle.bodies.specs.declared.Verdict.{Verdict}
@@ -60,51 +60,51 @@ more_within (suc w) bytes h q = omega (arith, div-add-mod' bytes (suc w))
 
 -- ---- The verdict, by how reading ended
 
-failed-verdict : (limited : Bool) (maximum size : ℕ) (f : Failure) → verdict.Refused (refusalOf f) ≡ verdictBy limited maximum size (failed f)
-unfolding verdictBy
+failed-verdict : (limited : Bool) (maximum size : ℕ) (f : Failure) → verdict.Refused (refusal_of f) ≡ verdict_by limited maximum size (failed f)
+unfolding verdict_by
 failed-verdict limited maximum size failure.Short = refl
 failed-verdict limited maximum size (failure.Bad k p) = refl
 
 module _ (stored : List Bool) (b : List ℕ) (count : ℕ) (c : count ≡ begun (width 1 stored) (length b))
-    (r : Outcome) (e : r ≡ told (readAt (times count (point 1 stored)) b 0)) (limited : Bool) (maximum : ℕ) where
+    (r : Outcome) (e : r ≡ told (read_at (times count (point 1 stored)) b 0)) (limited : Bool) (maximum : ℕ) where
   abbrev answer : Answer (List (List ℤ))
-  answer = readAt (times count (point 1 stored)) b 0
+  answer = read_at (times count (point 1 stored)) b 0
 
-  whole : answer ≡ pointsIn stored b
-  unfolding pointsIn
+  whole : answer ≡ points_in stored b
+  unfolding points_in
   whole = at-start (times count (point 1 stored)) b ∙ ap (λ n. run (times n (point 1 stored)) b) c
 
-  pub verdict-failed : {f : Failure} → r ≡ Failed f → verdict.Refused (refusalOf f) ≡ verdictBy limited maximum (length b) (pointsIn stored b)
-  verdict-failed {f} o = failed-verdict limited maximum (length b) f ∙ ap (verdictBy limited maximum (length b)) (sym (told-failed answer (sym o ∙ e)) ∙ whole)
+  pub verdict-failed : {f : Failure} → r ≡ Failed f → verdict.Refused (refusal_of f) ≡ verdict_by limited maximum (length b) (points_in stored b)
+  verdict-failed {f} o = failed-verdict limited maximum (length b) f ∙ ap (verdict_by limited maximum (length b)) (sym (told-failed answer (sym o ∙ e)) ∙ whole)
 
   module _ {end : ℕ} (o : r ≡ Done end) where
     abbrev points : List (List ℤ)
     points = (told-done answer (sym o ∙ e)).0
 
-    answered : pointsIn stored b ≡ ok points end
+    answered : points_in stored b ≡ ok points end
     answered = sym whole ∙ (told-done answer (sym o ∙ e)).1
 
     many : length points ≡ count
     many = times-length (point 1 stored) b count 0 (told-done answer (sym o ∙ e)).1
 
-    pub verdict-left-over : end < length b → verdict.Refused (LeftOver end) ≡ verdictBy limited maximum (length b) (pointsIn stored b)
-    unfolding verdictBy
+    pub verdict-left-over : end < length b → verdict.Refused (LeftOver end) ≡ verdict_by limited maximum (length b) (points_in stored b)
+    unfolding verdict_by
     verdict-left-over h = rw (answered, lt-ltb end (length b) h)
 
     module _ (h : length b ≤ end) {x : Bool} (q : x ≡ exceeds limited maximum count) where
-      pub verdict-maximum : x ≡ true → verdict.Refused Maximum ≡ verdictBy limited maximum (length b) (pointsIn stored b)
-      unfolding verdictBy
+      pub verdict-maximum : x ≡ true → verdict.Refused Maximum ≡ verdict_by limited maximum (length b) (points_in stored b)
+      unfolding verdict_by
       verdict-maximum t = rw (answered, le-ltb end (length b) h, many, ← q, t)
 
-      pub verdict-body : x ≡ false → verdict.Body count ≡ verdictBy limited maximum (length b) (pointsIn stored b)
-      unfolding verdictBy
+      pub verdict-body : x ≡ false → verdict.Body count ≡ verdict_by limited maximum (length b) (points_in stored b)
+      unfolding verdict_by
       verdict-body t = rw (answered, le-ltb end (length b) h, many, ← q, t)
 
 -- ---- The verdict, by its template's rule
 
 -- a verdict on a body says nothing of its template
-own : (limited : Bool) (maximum size : ℕ) (x : Answer (List (List ℤ))) {refusal : Refusal} → verdictBy limited maximum size x ≡ verdict.TemplateRefused refusal → ⊥
-unfolding verdictBy
+own : (limited : Bool) (maximum size : ℕ) (x : Answer (List (List ℤ))) {refusal : Refusal} → verdict_by limited maximum size x ≡ verdict.TemplateRefused refusal → ⊥
+unfolding verdict_by
 own limited maximum size (ok points n) {refusal} e = go (ltb n size) (exceeds limited maximum (length points)) e
   where
     go : (t u : Bool) → cond t (verdict.Refused (LeftOver n)) (cond u (verdict.Refused Maximum) (verdict.Body (length points))) ≡ verdict.TemplateRefused refusal → ⊥
@@ -122,44 +122,44 @@ bodied (verdict.Refused refusal) h n = absurd (miss (0 ∷ 1 ∷ []) 2 tt h)
 
 -- whether there is a point, by its count
 module _ (index count : ℕ) where
-  pub pointed-there : index < count → pointed.Point ≡ pointedAt index (verdict.Body count)
+  pub pointed-there : index < count → pointed.Point ≡ pointed_at index (verdict.Body count)
   pointed-there h = rw (lt-ltb index count h)
 
-  pub pointed-none : count ≤ index → pointed.Refused NoPoint ≡ pointedAt index (verdict.Body count)
+  pub pointed-none : count ≤ index → pointed.Refused NoPoint ≡ pointed_at index (verdict.Body count)
   pointed-none h = rw (le-ltb index count h)
 
-module _ (j : templates.Judged) (b : List ℕ) (rule : Rule) (e : rule ≡ ruleOf j) where
+module _ (j : templates.Judged) (b : List ℕ) (rule : Rule) (e : rule ≡ rule_of j) where
   module _ {refusal : Refusal} (q : rule.judgement ≡ judgement.Refused refusal) where
     refused : ruled j ≡ judgement.Refused refusal
     refused = sym (ap (λ r. r.judgement) e) ∙ q
 
-    pub judged-refused : unjudged (verdict.TemplateRefused refusal) ≡ judgedBy j b
-    unfolding judgedBy
+    pub judged-refused : unjudged (verdict.TemplateRefused refusal) ≡ judged_by j b
+    unfolding judged_by
     judged-refused = rw refused
 
-    pub pointed-refused : (index : ℕ) → pointed.TemplateRefused refusal ≡ pointedBy index j b
-    unfolding pointedBy
-    pointed-refused index = ap (λ x. pointedAt index x.verdict) judged-refused
+    pub pointed-refused : (index : ℕ) → pointed.TemplateRefused refusal ≡ pointed_by index j b
+    unfolding pointed_by
+    pointed-refused index = ap (λ x. pointed_at index x.verdict) judged-refused
 
-  module _ (q : rule.judgement ≡ judgement.Passed) {v : Verdict} (o : v ≡ verdictBy rule.limited rule.maximum (length b) (pointsIn rule.stored b)) where
+  module _ (q : rule.judgement ≡ judgement.Passed) {v : Verdict} (o : v ≡ verdict_by rule.limited rule.maximum (length b) (points_in rule.stored b)) where
     passed : ruled j ≡ judgement.Passed
     passed = sym (ap (λ r. r.judgement) e) ∙ q
 
-    same : v ≡ verdictOf j.template b
-    same = o ∙ ap (λ r. verdictBy r.limited r.maximum (length b) (pointsIn r.stored b)) e
+    same : v ≡ verdict_of j.template b
+    same = o ∙ ap (λ r. verdict_by r.limited r.maximum (length b) (points_in r.stored b)) e
 
-    pub judged-passed : described j.template.description v ≡ judgedBy j b
-    unfolding judgedBy
+    pub judged-passed : described j.template.description v ≡ judged_by j b
+    unfolding judged_by
     judged-passed = rw (passed, same)
 
-    pub pointed-passed : {w : Verdict} → v ≡ w → (index : ℕ) → pointedAt index w ≡ pointedBy index j b
-    unfolding pointedBy
+    pub pointed-passed : {w : Verdict} → v ≡ w → (index : ℕ) → pointed_at index w ≡ pointed_by index j b
+    unfolding pointed_by
     pointed-passed r index =
-        ap (pointedAt index) (sym r ∙ sym (said_of j.template.description v)) ∙ ap (λ x. pointedAt index x.verdict) judged-passed
+        ap (pointed_at index) (sym r ∙ sym (said_of j.template.description v)) ∙ ap (λ x. pointed_at index x.verdict) judged-passed
 
-    pub judged-faulty : {refusal : Refusal} → v ≡ verdict.Refused refusal → unjudged v ≡ judgedBy j b
+    pub judged-faulty : {refusal : Refusal} → v ≡ verdict.Refused refusal → unjudged v ≡ judged_by j b
     judged-faulty r = let z : unjudged v ≡ described j.template.description v = rw r in z ∙ judged-passed
 
     -- where it isn't refused there is a body
-    pub judged-body : OneOf (0 ∷ 1 ∷ []) (tag_of declared.the_type v) → record { verdict = v; description = j.template.description } ≡ judgedBy j b
-    judged-body h = bodied v h (λ refusal r. own rule.limited rule.maximum (length b) (pointsIn rule.stored b) (sym o ∙ r)) ∙ judged-passed
+    pub judged-body : OneOf (0 ∷ 1 ∷ []) (tag_of declared.the_type v) → record { verdict = v; description = j.template.description } ≡ judged_by j b
+    judged-body h = bodied v h (λ refusal r. own rule.limited rule.maximum (length b) (points_in rule.stored b) (sym o ∙ r)) ∙ judged-passed

@@ -12,7 +12,7 @@ use lib.Dec.{ltb}
 use lib.IntN.{ℤ}
 use lib.ListN.{length, replicate}
 use Rattle.formats.specs.Bytes.{impossible}
-use Rattle.formats.specs.Reader.{Answer, ok, short, bad, readAt, times}
+use Rattle.formats.specs.Reader.{Answer, ok, short, bad, read_at, times}
 use Rattle.formats.specs.Compose.{at-start, at-within}
 use Rattle.formats.specs.Fixed.{times-length, fixed-times}
 use Rattle.refusals.specs.declared.Refusal.TheVariants.{LeftOver, NoPoint, Maximum}
@@ -26,8 +26,8 @@ use Rattle.point_places.specs.Places.{nowhere}
 use Rattle.point_places.specs.PlaceLaws.{read-nowhere}
 use Rattle.templates.specs.declared.Template.{Template}
 use Rattle.templates.specs.declared.Judged as templates
-use Rattle.bodies.specs.Body.{begun, pointsIn}
-use Rattle.bodies.specs.Reading.{ruled, ruleOf, exceeds, verdictBy, verdictOf, judgedIf, judgedBy, read, pointedAt, pointedBy, placesIf, places_by}
+use Rattle.bodies.specs.Body.{begun, points_in}
+use Rattle.bodies.specs.Reading.{ruled, rule_of, exceeds, verdict_by, verdict_of, judged_if, judged_by, read, pointed_at, pointed_by, places_if, places_by}
 use Rattle.bodies.specs.declared.Rule.{Rule}
 use Rattle.bodies.specs.declared.Verdict.{Verdict}
 use Rattle.bodies.specs.declared.Verdict.TheVariants as verdict
@@ -43,8 +43,8 @@ record Read (x : Answer (List (List ℤ))) (count : ℕ) : Type 0 where
   read : x ≡ ok points end
   many : length points ≡ count
 
-body-read : (limited : Bool) (maximum size : ℕ) (x : Answer (List (List ℤ))) {count : ℕ} → verdictBy limited maximum size x ≡ verdict.Body count → Read x count
-unfolding verdictBy
+body-read : (limited : Bool) (maximum size : ℕ) (x : Answer (List (List ℤ))) {count : ℕ} → verdict_by limited maximum size x ≡ verdict.Body count → Read x count
+unfolding verdict_by
 body-read limited maximum size (ok points n) {count} e = go (ltb n size) (exceeds limited maximum (length points)) e
   where
     go : (t u : Bool) → cond t (verdict.Refused (LeftOver n)) (cond u (verdict.Refused Maximum) (verdict.Body (length points))) ≡ verdict.Body count → Read (ok points n) count
@@ -61,7 +61,7 @@ record Pointing (x : Answer (List (List ℤ))) (index : ℕ) : Type 0 where
   read : x ≡ ok points end
   there : index < length points
 
-point-read : (limited : Bool) (maximum size : ℕ) (x : Answer (List (List ℤ))) (index : ℕ) (v : Verdict) → verdictBy limited maximum size x ≡ v → pointedAt index v ≡ pointed.Point
+point-read : (limited : Bool) (maximum size : ℕ) (x : Answer (List (List ℤ))) (index : ℕ) (v : Verdict) → verdict_by limited maximum size x ≡ v → pointed_at index v ≡ pointed.Point
     → Pointing x index
 point-read limited maximum size x index (verdict.Body count) e q = go (ltb index count) refl q
   where
@@ -71,13 +71,13 @@ point-read limited maximum size x index (verdict.Body count) e q = go (ltb index
 point-read limited maximum size x index (verdict.TemplateRefused refusal) e q = impossible (cc)
 point-read limited maximum size x index (verdict.Refused refusal) e q = impossible (cc)
 
-ruled-point : (x : Judgement) (t : Template) (b : List ℕ) (index : ℕ) → pointedAt index (judgedIf x t b).verdict ≡ pointed.Point → Pointing (read t b) index
+ruled-point : (x : Judgement) (t : Template) (b : List ℕ) (index : ℕ) → pointed_at index (judged_if x t b).verdict ≡ pointed.Point → Pointing (read t b) index
 ruled-point judgement.Passed t b index e =
-    let v = verdictOf t b in
-    point-read _ _ _ (read t b) index v refl (ap (pointedAt index) (sym (said_of t.description v)) ∙ e)
+    let v = verdict_of t b in
+    point-read _ _ _ (read t b) index v refl (ap (pointed_at index) (sym (said_of t.description v)) ∙ e)
 ruled-point (judgement.Refused refusal) t b index e = impossible (cc)
 
-no-places : (p : Pointed) → OneOf (1 ∷ 2 ∷ []) (tag_of asked.the_type p) → (index : ℕ) (t : Template) (b : List ℕ) → nowhere ≡ placesIf p index t b
+no-places : (p : Pointed) → OneOf (1 ∷ 2 ∷ []) (tag_of asked.the_type p) → (index : ℕ) (t : Template) (b : List ℕ) → nowhere ≡ places_if p index t b
 no-places pointed.Point h index t b = absurd (miss (1 ∷ 2 ∷ []) 0 tt h)
 no-places (pointed.TemplateRefused refusal) h index t b = refl
 no-places (pointed.Refused refusal) h index t b = refl
@@ -85,24 +85,24 @@ no-places (pointed.Refused refusal) h index t b = refl
 module _ (index : ℕ) (j : templates.Judged) (b : List ℕ) where
   -- a point is read by some flags, from a place on
   abbrev pub Shown : List Bool → List Bool → ℕ → Type 0
-  Shown included stored start = places.placesIn included stored (readAt (point 1 stored) b start) ≡ places_by index j b
+  Shown included stored start = places.places_in included stored (read_at (point 1 stored) b start) ≡ places_by index j b
 
   -- no point is read as one of no channel
-  pub shown-none : {p : Pointed} → p ≡ pointedBy index j b → OneOf (1 ∷ 2 ∷ []) (tag_of asked.the_type p) → Shown (replicate 16 false) (replicate 16 false) 0
+  pub shown-none : {p : Pointed} → p ≡ pointed_by index j b → OneOf (1 ∷ 2 ∷ []) (tag_of asked.the_type p) → Shown (replicate 16 false) (replicate 16 false) 0
   unfolding places_by
-  shown-none {p} e h = read-nowhere 1 b 0 ∙ no-places p h index j.template b ∙ ap (λ p. placesIf p index j.template b) e
+  shown-none {p} e h = read-nowhere 1 b 0 ∙ no-places p h index j.template b ∙ ap (λ p. places_if p index j.template b) e
 
-  module _ (e : pointedBy index j b ≡ pointed.Point) where
+  module _ (e : pointed_by index j b ≡ pointed.Point) where
     abbrev flags : List Bool
     flags = stored j.template.description
 
     pointing : Pointing (read j.template b) index
-    unfolding pointedBy judgedBy
+    unfolding pointed_by judged_by
     pointing = ruled-point (ruled j) j.template b index e
 
     -- the points, read from the start
-    from_start : readAt (times (begun (width 1 flags) (length b)) (point 1 flags)) b 0 ≡ ok pointing.points pointing.end
-    unfolding pointsIn
+    from_start : read_at (times (begun (width 1 flags) (length b)) (point 1 flags)) b 0 ≡ ok pointing.points pointing.end
+    unfolding points_in
     from_start = at-start (times (begun (width 1 flags) (length b)) (point 1 flags)) b ∙ pointing.read
 
     within : index < begun (width 1 flags) (length b)
@@ -116,20 +116,20 @@ module _ (index : ℕ) (j : templates.Judged) (b : List ℕ) where
         omega (arith, z, y, mul-le-mul_right {m = index} {n = n} (width 1 flags) (omega (arith, within)))
 
     there : Shown (included j.template.description) flags (index * width 1 flags)
-    unfolding places_by places.placesIn
+    unfolding places_by places.places_in
     there =
         let n = begun (width 1 flags) (length b) in
         let z : 0 + index * width 1 flags ≡ index * width 1 flags = omega arith in
-        ap (places.placesIn (included j.template.description) flags) (rw z at (nth-point 1 flags b n 0 pointing.points pointing.end (omega arith) from_start index within))
+        ap (places.places_in (included j.template.description) flags) (rw z at (nth-point 1 flags b n 0 pointing.points pointing.end (omega arith) from_start index within))
         ∙ sym (rw (e, pointing.read) refl)
 
     -- by its rule
-    module _ (rule : Rule) (f : rule ≡ ruleOf j) {w : ℕ} (q : w ≡ width 1 rule.stored) where
+    module _ (rule : Rule) (f : rule ≡ rule_of j) {w : ℕ} (q : w ≡ width 1 rule.stored) where
       pub point-within : index * w ≤ length b
       point-within = rw (q, f) lies
 
       pub shown-there : Shown rule.included rule.stored (index * w)
       shown-there =
-          ap (λ n. places.placesIn rule.included rule.stored (readAt (point 1 rule.stored) b (index * n))) q
-          ∙ ap (λ r. places.placesIn r.included r.stored (readAt (point 1 r.stored) b (index * width 1 r.stored))) f
+          ap (λ n. places.places_in rule.included rule.stored (read_at (point 1 rule.stored) b (index * n))) q
+          ∙ ap (λ r. places.places_in r.included r.stored (read_at (point 1 r.stored) b (index * width 1 r.stored))) f
           ∙ there

@@ -14,7 +14,7 @@ use Rattle.formats.specs.Faults.{faults-times}
 use Rattle.points.specs.Points.{point, width}
 use Rattle.points.specs.Laws.{writes-point, writes-points, points-length, fixed-point}
 use Rattle.points.specs.FaultLaws.{faults-point}
-use Rattle.bodies.specs.Body.{encodeBody, ValidBody, begun, pointsIn}
+use Rattle.bodies.specs.Body.{encode_body, ValidBody, begun, points_in}
 use Rattle.bodies.specs.Demands.{OneReading}
 
 -- ---- How many points some bytes begin
@@ -61,53 +61,53 @@ no-points points h = sym (take_all 0 points (omega arith))
 
 module _ (stored : List Bool) where
   -- reading goes by how many points the bytes begin
-  pub by_count : (b : List ℕ) {n : ℕ} → begun (width 1 stored) (length b) ≡ n → pointsIn stored b ≡ run (times n (point 1 stored)) b
-  unfolding pointsIn
+  pub by_count : (b : List ℕ) {n : ℕ} → begun (width 1 stored) (length b) ≡ n → points_in stored b ≡ run (times n (point 1 stored)) b
+  unfolding points_in
   by_count b e = rw e
 
   -- a body begins its points and no more
-  pub begun-body : (points : List (List ℤ)) → ValidBody stored points → begun (width 1 stored) (length (encodeBody stored points)) ≡ length points
+  pub begun-body : (points : List (List ℤ)) → ValidBody stored points → begun (width 1 stored) (length (encode_body stored points)) ≡ length points
   begun-body points v =
       ap (begun (width 1 stored)) (points-length 1 stored points v.each) ∙ begun-whole (width 1 stored) (length points) (λ z. ap length (v.traced z))
 
   -- what was written is read back
-  pub body-read : (points : List (List ℤ)) → ValidBody stored points → pointsIn stored (encodeBody stored points) ≡ ok points (length (encodeBody stored points))
-  body-read points v = by_count (encodeBody stored points) (begun-body points v) ∙ (writes-points 1 stored (length points)).reads points (refl, v.each)
+  pub body-read : (points : List (List ℤ)) → ValidBody stored points → points_in stored (encode_body stored points) ≡ ok points (length (encode_body stored points))
+  body-read points v = by_count (encode_body stored points) (begun-body points v) ∙ (writes-points 1 stored (length points)).reads points (refl, v.each)
 
   -- and nothing else is read
-  pub read-body : (b : List ℕ) {points : List (List ℤ)} → Bytes b → pointsIn stored b ≡ ok points (length b) → ValidBody stored points × (b ≡ encodeBody stored points)
-  unfolding pointsIn begun
+  pub read-body : (b : List ℕ) {points : List (List ℤ)} → Bytes b → points_in stored b ≡ ok points (length b) → ValidBody stored points × (b ≡ encode_body stored points)
+  unfolding points_in begun
   read-body b {points} g e =
       let x = (writes-points 1 stored (begun (width 1 stored) (length b))).only b g e in
       (record { each = x.0.1; traced = λ z. no-points points (x.0.0 ∙ ap (λ w. begun w (length b)) z) }, x.1)
 
-  pub read-within : (b : List ℕ) {points : List (List ℤ)} {n : ℕ} → pointsIn stored b ≡ ok points n → n ≤ length b
-  unfolding pointsIn
+  pub read-within : (b : List ℕ) {points : List (List ℤ)} {n : ℕ} → points_in stored b ≡ ok points n → n ≤ length b
+  unfolding points_in
   read-within b e = (whole (times (begun (width 1 stored) (length b)) (point 1 stored)) b e).within
 
   -- what is read are the points that the bytes begin
-  pub read-size : (b : List ℕ) {points : List (List ℤ)} {n : ℕ} → pointsIn stored b ≡ ok points n → n ≡ begun (width 1 stored) (length b) * width 1 stored
-  unfolding pointsIn
+  pub read-size : (b : List ℕ) {points : List (List ℤ)} {n : ℕ} → points_in stored b ≡ ok points n → n ≡ begun (width 1 stored) (length b) * width 1 stored
+  unfolding points_in
   read-size b {points} {n} e =
       let m = begun (width 1 stored) (length b) in
       omega (arith, fixed-times (point 1 stored) (width 1 stored) (fixed-point 1 stored) m b 0 points n (omega arith) (at-start (times m (point 1 stored)) b ∙ e))
 
   -- so bytes are left over only where a point has none: then all of them are
-  pub left_over : (b : List ℕ) {points : List (List ℤ)} {n : ℕ} → pointsIn stored b ≡ ok points n → n < length b → (width 1 stored ≡ 0) × (n ≡ 0)
+  pub left_over : (b : List ℕ) {points : List (List ℤ)} {n : ℕ} → points_in stored b ≡ ok points n → n < length b → (width 1 stored ≡ 0) × (n ≡ 0)
   left_over b {points} {n} e h = go (width 1 stored) (read-size b e)
     where
       go : (w : ℕ) → n ≡ begun w (length b) * w → (w ≡ 0) × (n ≡ 0)
       go zero q = (refl, omega arith)
       go (suc w) q = absurd (omega (arith, (begun-hold (suc w) (length b) (omega arith)).0))
 
-  pub none_read : (b : List ℕ) → width 1 stored ≡ 0 → pointsIn stored b ≡ ok [] 0
-  unfolding pointsIn begun times run
+  pub none_read : (b : List ℕ) → width 1 stored ≡ 0 → points_in stored b ≡ ok [] 0
+  unfolding points_in begun times run
   none_read b h = rw h
 
 -- ---- Only a switch is refused
 
-pub switch-refused : (stored : List Bool) (b : List ℕ) {k p : ℕ} → Bytes b → pointsIn stored b ≡ bad k p → k ≡ 8
-unfolding pointsIn
+pub switch-refused : (stored : List Bool) (b : List ℕ) {k p : ℕ} → Bytes b → points_in stored b ≡ bad k p → k ≡ 8
+unfolding points_in
 switch-refused stored b bytes e =
     ((faults-times (writes-point 1 stored) (faults-point 1 stored) (begun (width 1 stored) (length b))).breaks b bytes e).broken.broken.1
 
@@ -117,5 +117,5 @@ pub one-reading : OneReading
 one-reading flags points others v u e =
     let x = body-read flags points v in
     let y = body-read flags others u in
-    let z = ap (pointsIn flags) e in
+    let z = ap (points_in flags) e in
     cc

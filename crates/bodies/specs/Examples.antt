@@ -6,30 +6,30 @@ use Rattle.formats.specs.Reader.{next, run, bind, each, times, one}
 use Rattle.formats.specs.Number as numbers
 use Rattle.formats.specs.Number.{number, digits}
 use Rattle.formats.specs.Put.{puts}
-use Rattle.formats.specs.Writes.{encodeEach}
+use Rattle.formats.specs.Writes.{encode_each}
 use Rattle.formats.specs.Lent.{Writing}
-use Rattle.refusals.specs.Table.{number_of, inCompact, named, refusalOf}
+use Rattle.refusals.specs.Table.{number_of, in_compact, named, refusal_of}
 use Rattle.refusals.specs.Stages.{require, or_else, stages, compactly}
-use Rattle.refusals.specs.Ranges.{firstMisfit}
+use Rattle.refusals.specs.Ranges.{first_misfit}
 use Rattle.refusals.specs.declared.Where.TheVariants.{At}
 use Rattle.refusals.specs.declared.Quantity.TheVariants as quantity
 use Rattle.refusals.specs.declared.Refusal.TheVariants.{Short, XOrY, Switch, LeftOver, Amount, Room, Tag, Maximum, NotCompact}
 use Rattle.channels.specs.Channel.{signed_of}
-use Rattle.channels.specs.Stored.{offset, value_of, storedOf, fits}
+use Rattle.channels.specs.Stored.{offset, value_of, stored_of, fits}
 use Rattle.channels.specs.declared.Place.{Place}
 use Rattle.channels.specs.declared.Place.TheVariants.{Absent, Constant, Number}
-use Rattle.descriptions.specs.Description.{attribute, descriptor, includes, channelOf, description}
+use Rattle.descriptions.specs.Description.{attribute, descriptor, includes, channel_of, description}
 use Rattle.descriptions.specs.Read.{nothing}
-use Rattle.tip_switch.specs.Switch.{state_of, isState, byte_of}
+use Rattle.tip_switch.specs.Switch.{state_of, is_state, byte_of}
 use Rattle.points.specs.Points as points
-use Rattle.points.specs.Points.{storedFrom, channels, widths, width, encodeSample, encodePoint, fitsSample}
+use Rattle.points.specs.Points.{stored_from, channels, widths, width, encode_sample, encode_point, fits_sample}
 use Rattle.point_places.specs.Places.{places_of, nowhere}
-use Rattle.orders.specs.Orders.{step, stride, numbersFrom, pointsFrom, points_of}
-use Rattle.values.specs.Values.{samplesIn, samplesFrom, samples, judgementOf}
-use Rattle.templates.specs.Reading.{withContent, isShortest, atEnd, limitedBy, limitedFrom, filling, describedBy, contentOf, lengthAndContent, templateOf}
-use Rattle.bodies.specs.Body.{begun, pointsIn}
-use Rattle.bodies.specs.Reading.{ruling, exceeds, verdictBy, judgedBy, pointedBy, places_by}
-use Rattle.bodies.specs.Writing.{countFits, judgementBy, putWhere, writeRuled, writeBy}
+use Rattle.orders.specs.Orders.{step, stride, numbers_from, points_from, points_of}
+use Rattle.values.specs.Values.{samples_in, samples_from, samples, judgement_of}
+use Rattle.templates.specs.Reading.{with_content, is_shortest, at_end, limited_by, limited_from, filling, described_by, content_of, length_and_content, template_of}
+use Rattle.bodies.specs.Body.{begun, points_in}
+use Rattle.bodies.specs.Reading.{ruling, exceeds, verdict_by, judged_by, pointed_by, places_by}
+use Rattle.bodies.specs.Writing.{count_fits, judgement_by, put_where, write_ruled, write_by}
 use Rattle.bodies.specs.declared.Verdict.{Verdict}
 use Rattle.bodies.specs.declared.Verdict.TheVariants as verdict
 use Rattle.bodies.specs.declared.Written.{Written}
@@ -59,30 +59,30 @@ q is a = record { question = q; answer = a }
 
 -- ---- What is answered
 
-abbrev verdictNumber : Verdict → ℕ
-verdictNumber (verdict.Body count) = 0
-verdictNumber (verdict.TemplateRefused refusal) = number_of refusal
-verdictNumber (verdict.Refused refusal) = number_of refusal
+abbrev verdict_number : Verdict → ℕ
+verdict_number (verdict.Body count) = 0
+verdict_number (verdict.TemplateRefused refusal) = number_of refusal
+verdict_number (verdict.Refused refusal) = number_of refusal
 
-abbrev writtenNumber : Written → ℕ
-writtenNumber (written.Body length) = 0
-writtenNumber (written.TemplateRefused refusal) = number_of refusal
-writtenNumber (written.Refused refusal) = number_of refusal
+abbrev written_number : Written → ℕ
+written_number (written.Body length) = 0
+written_number (written.TemplateRefused refusal) = number_of refusal
+written_number (written.Refused refusal) = number_of refusal
 
 -- what the output holds before, and where nothing is put
 abbrev untouched : (room : ℕ) → List ℕ
 untouched room = replicate room 0x55
 
-abbrev bodyJudged : Verdict → Answer
-bodyJudged v = judged (verdictNumber v) v
+abbrev body_judged : Verdict → Answer
+body_judged v = judged (verdict_number v) v
 
-abbrev bodyPut : Writing Written → Answer
-bodyPut w = put (writtenNumber w.answer) w.answer w.bytes
+abbrev body_put : Writing Written → Answer
+body_put w = put (written_number w.answer) w.answer w.bytes
 
 unfoldable pub answered : Question → Answer
-answered (body template bytes) = bodyJudged (judgedBy (templateOf template) bytes).verdict
-answered (point template bytes index) = places (places_by index (templateOf template) bytes)
-answered (values template count numbers wanted room) = bodyPut (writeBy (templateOf template) count numbers wanted (untouched room))
+answered (body template bytes) = body_judged (judged_by (template_of template) bytes).verdict
+answered (point template bytes index) = places (places_by index (template_of template) bytes)
+answered (values template count numbers wanted room) = body_put (write_by (template_of template) count numbers wanted (untouched room))
 
 -- ---- The table
 
@@ -169,9 +169,9 @@ abbrev found : Example → Example
 found e = e.question is answered e.question
 
 pub examples : map found table ≡ table
-unfolding answered run next bind reader.map each times one number value_of offset signed_of attribute descriptor includes channelOf description nothing
-    withContent isShortest atEnd limitedBy limitedFrom filling describedBy contentOf lengthAndContent templateOf numbers.value
-    storedFrom channels widths width points.sample points.point places_of named refusalOf begun pointsIn ruling exceeds verdictBy judgedBy pointedBy places_by
-    require or_else stages compactly inCompact firstMisfit samplesIn samplesFrom samples judgementOf fitsSample fits step stride numbersFrom pointsFrom points_of
-    digits storedOf state_of isState byte_of encodeEach encodeSample encodePoint flat_map puts countFits judgementBy putWhere writeRuled writeBy
+unfolding answered run next bind reader.map each times one number value_of offset signed_of attribute descriptor includes channel_of description nothing
+    with_content is_shortest at_end limited_by limited_from filling described_by content_of length_and_content template_of numbers.value
+    stored_from channels widths width points.sample points.point places_of named refusal_of begun points_in ruling exceeds verdict_by judged_by pointed_by places_by
+    require or_else stages compactly in_compact first_misfit samples_in samples_from samples judgement_of fits_sample fits step stride numbers_from points_from points_of
+    digits stored_of state_of is_state byte_of encode_each encode_sample encode_point flat_map puts count_fits judgement_by put_where write_ruled write_by
 examples = refl

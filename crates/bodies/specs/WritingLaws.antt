@@ -14,25 +14,25 @@ use Rattle.values.specs.ValueLaws.{fits-valid}
 use Rattle.bodies.specs.Body.{ValidBody}
 use Rattle.bodies.specs.BodyLaws.{no-points}
 use Rattle.bodies.specs.Reading.{exceeds}
-use Rattle.bodies.specs.Writing.{countFits, judgementBy}
+use Rattle.bodies.specs.Writing.{count_fits, judgement_by}
 
 -- a count fits where it is small, and there are points only where they have bytes
-pub count_fits : (count w : ℕ) → count < 16777216 → (w ≡ 0 → count ≡ 0) → countFits count w ≡ true
-unfolding countFits
-count_fits zero w h g = refl
-count_fits (suc n) zero h g = absurd (omega (arith, g refl))
-count_fits (suc n) (suc w) h g = rw (le-leb (suc n) 16777215 (omega arith), ne_eqb (suc n) 0 (λ z. omega arith), lt-ltb 0 (suc w) (omega arith))
+pub count_fits_lem : (count w : ℕ) → count < 16777216 → (w ≡ 0 → count ≡ 0) → count_fits count w ≡ true
+unfolding count_fits
+count_fits_lem zero w h g = refl
+count_fits_lem (suc n) zero h g = absurd (omega (arith, g refl))
+count_fits_lem (suc n) (suc w) h g = rw (le-leb (suc n) 16777215 (omega arith), ne_eqb (suc n) 0 (λ z. omega arith), lt-ltb 0 (suc w) (omega arith))
 
-pub fits-small : (count w : ℕ) → countFits count w ≡ true → count ≤ 16777215
-unfolding countFits
+pub fits-small : (count w : ℕ) → count_fits count w ≡ true → count ≤ 16777215
+unfolding count_fits
 fits-small count w e = leb-true count 16777215 (go (leb count 16777215) _ e)
   where
     go : (a b : Bool) → (a && b) ≡ true → a ≡ true
     go true b q = refl
     go false b q = impossible (cc)
 
-fits-wide : (count w : ℕ) → countFits count w ≡ true → w ≡ 0 → count ≡ 0
-unfolding countFits
+fits-wide : (count w : ℕ) → count_fits count w ≡ true → w ≡ 0 → count ≡ 0
+unfolding count_fits
 fits-wide count w e z = go (leb count 16777215) (eqb count 0) refl (rw z at e)
   where
     go : (small none : Bool) → eqb count 0 ≡ none → (small && (none || ltb 0 0)) ≡ true → count ≡ 0
@@ -46,12 +46,12 @@ module _ (flags : List Bool) (limited : Bool) (maximum count : ℕ) (numbers : L
 
   -- what holds where all are passed; and where nothing else is wanted, all are
   pub record Passes : Type 0 where
-    pub counted : countFits count (width 1 flags) ≡ true
-    pub fitting : values.judgementOf 1 flags Point count numbers ≡ judgement.Passed
+    pub counted : count_fits count (width 1 flags) ≡ true
+    pub fitting : values.judgement_of 1 flags Point count numbers ≡ judgement.Passed
     pub allowed : exceeds limited maximum count ≡ false
 
-  pub passes : (wanted : Bool) → judgementBy flags limited maximum count numbers wanted ≡ judgement.Passed → Passes
-  unfolding judgementBy
+  pub passes : (wanted : Bool) → judgement_by flags limited maximum count numbers wanted ≡ judgement.Passed → Passes
+  unfolding judgement_by
   passes wanted e =
       let x = stages-passed _ e in
       record {
@@ -60,8 +60,8 @@ module _ (flags : List Bool) (limited : Bool) (maximum count : ℕ) (numbers : L
         allowed = not-true _ (require-passed _ _ x.1.1.1.0);
       }
 
-  pub passing : Passes → judgementBy flags limited maximum count numbers false ≡ judgement.Passed
-  unfolding judgementBy stages or_else require compactly
+  pub passing : Passes → judgement_by flags limited maximum count numbers false ≡ judgement.Passed
+  unfolding judgement_by stages or_else require compactly
   passing x = rw (x.counted, x.fitting, x.allowed)
 
   -- so what passes is a body

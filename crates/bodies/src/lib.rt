@@ -2,10 +2,10 @@
 ghost use Rattle.std.specs.Prelude.{◌≡◌, length};
 ghost use Rattle.formats.specs.Lent.{writing};
 ghost use Rattle.channels.specs.Descriptors.{included, stored};
-ghost use Rattle.templates.specs.Reading.{templateOf};
-ghost use Rattle.bodies.specs.Body.{begun, pointsIn};
-ghost use Rattle.bodies.specs.Reading.{ruling, ruleOf, exceeds, verdictBy, unjudged, judgedBy, pointedAt, pointedBy, places_by};
-ghost use Rattle.bodies.specs.Writing.{countFits, judgementBy, writeRuled, writeBy};
+ghost use Rattle.templates.specs.Reading.{template_of};
+ghost use Rattle.bodies.specs.Body.{begun, points_in};
+ghost use Rattle.bodies.specs.Reading.{ruling, rule_of, exceeds, verdict_by, unjudged, judged_by, pointed_at, pointed_by, places_by};
+ghost use Rattle.bodies.specs.Writing.{count_fits, judgement_by, write_ruled, write_by};
 
 use channels::{Description, Format, Place};
 use formats::Outcome;
@@ -36,7 +36,7 @@ fn ruling(verdict: Judgement, described: bool) -> Judgement
 }
 
 fn rule_of(read: templates::Judged) -> Rule
-    ensures { result ≡ ruleOf read }
+    ensures { result ≡ rule_of read }
 {
     let verdict = read.verdict;
     let template = read.template;
@@ -81,7 +81,7 @@ fn exceeds(limited: bool, maximum: u32, count: usize) -> bool
 
 // The body by its template's rule: as many points are read as its bytes begin, so that a body that ends inside a point is short.
 fn verdict_by(body: &[u8], stored: [bool; 16], limited: bool, maximum: u32) -> Verdict
-    ensures { result ≡ verdictBy limited maximum (length body.now) (pointsIn stored body.now) }
+    ensures { result ≡ verdict_by limited maximum (length body.now) (points_in stored body.now) }
 {
     let width = points::width(Format::Compact, stored);
     let count = begun(width, body.len());
@@ -119,7 +119,7 @@ fn unjudged(verdict: Verdict) -> Judged
 
 // A whole slice, as a body of the template that the other slice is.
 pub fn judge(template: &[u8], body: &[u8]) -> Judged
-    ensures { result ≡ judgedBy (templateOf template.now) body.now }
+    ensures { result ≡ judged_by (template_of template.now) body.now }
 {
     let read = templates::read(template);
     let rule = rule_of(read);
@@ -150,7 +150,7 @@ pub enum Pointed {
 
 // By the verdict on the body.
 fn pointed_at(verdict: Verdict, index: usize) -> Pointed
-    ensures { result ≡ pointedAt index verdict }
+    ensures { result ≡ pointed_at index verdict }
 {
     match verdict {
         Verdict::Body { count } => {
@@ -167,7 +167,7 @@ fn pointed_at(verdict: Verdict, index: usize) -> Pointed
 
 // Template and body are judged first.
 pub fn judge_point(template: &[u8], body: &[u8], index: usize) -> Pointed
-    ensures { result ≡ pointedBy index (templateOf template.now) body.now }
+    ensures { result ≡ pointed_by index (template_of template.now) body.now }
 {
     let read = templates::read(template);
     let rule = rule_of(read);
@@ -182,7 +182,7 @@ pub fn judge_point(template: &[u8], body: &[u8], index: usize) -> Pointed
 
 // One sample point as sixteen places, all absent where there is no such point: it is then read by the flags of no channel.
 pub fn point(template: &[u8], body: &[u8], index: usize) -> [Place; 16]
-    ensures { result ≡ places_by index (templateOf template.now) body.now }
+    ensures { result ≡ places_by index (template_of template.now) body.now }
 {
     let read = templates::read(template);
     let rule = rule_of(read);
@@ -208,7 +208,7 @@ pub enum Written {
 
 // A count that three bytes don't hold is no record's, and points without bytes leave no trace in a body: both don't fit (request L4).
 pub fn count_fits(count: usize, width: usize) -> bool
-    ensures { result ≡ countFits count width }
+    ensures { result ≡ count_fits count width }
 {
     count <= 16777215 && (count == 0 || 0 < width)
 }
@@ -222,7 +222,7 @@ fn judge_values(
     values: &[i32],
     wanted: bool,
 ) -> Judgement
-    ensures { result ≡ judgementBy stored limited maximum count values.now wanted }
+    ensures { result ≡ judgement_by stored limited maximum count values.now wanted }
 {
     let width = points::width(Format::Compact, stored);
     if !count_fits(count, width) {
@@ -255,7 +255,7 @@ fn write_ruled(
     wanted: bool,
     out: &mut [u8],
 ) -> Written
-    ensures { writing result out.new ≡ writeRuled stored limited maximum count values.now wanted out.old }
+    ensures { writing result out.new ≡ write_ruled stored limited maximum count values.now wanted out.old }
 {
     let judged = judge_values(stored, limited, maximum, count, values, wanted);
     if let Judgement::Refused(refusal) = judged {
@@ -279,7 +279,7 @@ pub fn write(
     extended: &[u8],
     out: &mut [u8],
 ) -> Written
-    ensures { writing result out.new ≡ writeBy (templateOf template.now) count values.now wanted out.old }
+    ensures { writing result out.new ≡ write_by (template_of template.now) count values.now wanted out.old }
 {
     let read = templates::read(template);
     let rule = rule_of(read);

@@ -18,7 +18,7 @@ struct Bytes {
 fn word_at(line: &[u8], at: usize, space: &mut [u8; 131072]) -> Bytes {
     let span = words::next(line, b' ', at);
     let word = words::part(line, span.from, span.to);
-    let amount = hex::hex_in(word, space);
+    let amount = hexadecimal::hex_in(word, space);
     Bytes {
         reason: words::reason(amount.good, word, words::NOT_BYTES),
         count: amount.count,
@@ -28,7 +28,7 @@ fn word_at(line: &[u8], at: usize, space: &mut [u8; 131072]) -> Bytes {
 
 // The bytes of all words from a place on.
 fn rest_at(line: &[u8], at: usize, space: &mut [u8; 131072]) -> Bytes {
-    let amount = hex::bytes_in(words::part(line, at, line.len()), space);
+    let amount = hexadecimal::bytes_in(words::part(line, at, line.len()), space);
     Bytes {
         reason: if amount.good {
             words::NO_REASON
@@ -70,8 +70,8 @@ fn read(
     if reason != words::NO_REASON {
         return answers::cannot(text, used, reason);
     }
-    let ruler = hex::first(&space, template.count);
-    let bytes = hex::first(&room, body.count);
+    let ruler = hexadecimal::first(&space, template.count);
+    let bytes = hexadecimal::first(&room, body.count);
     if pointing {
         return show(text, used, ruler, bytes, index);
     }
@@ -127,10 +127,10 @@ pub fn write(text: &mut [u8; 65536], used: u16, line: &[u8], at: usize) -> u16 {
     write_body(
         text,
         used,
-        hex::first(&room, template.count),
+        hexadecimal::first(&room, template.count),
         wanted,
         numerals::first(&values, wanted.given),
-        hex::first(&space, wanted.lent),
+        hexadecimal::first(&space, wanted.lent),
     )
 }
 
@@ -155,7 +155,7 @@ fn write_body(
         &mut out[0..room],
     );
     let used = put_written(text, start, written);
-    answers::put_lent(text, used, hex::first(&out, room))
+    answers::put_lent(text, used, hexadecimal::first(&out, room))
 }
 
 fn put_written(text: &mut [u8; 65536], used: u16, written: Written) -> u16 {
@@ -185,7 +185,7 @@ pub fn turn(text: &mut [u8; 65536], used: u16, line: &[u8], at: usize) -> u16 {
     turn_record(
         text,
         used,
-        hex::first(&space, whole.count),
+        hexadecimal::first(&space, whole.count),
         at_most(first.value as usize),
         at_most(second.value as usize),
     )
@@ -208,8 +208,8 @@ fn turn_record(text: &mut [u8; 65536], start: u16, whole: &[u8], first: usize, s
     let mut body = [170; 131072];
     let turned = turning::turn(whole, &mut template[0..first], &mut body[0..second]);
     let used = put_turned(text, start, turned);
-    let used = answers::put_lent(text, used, hex::first(&template, first));
-    answers::put_lent(text, used, hex::first(&body, second))
+    let used = answers::put_lent(text, used, hexadecimal::first(&template, first));
+    answers::put_lent(text, used, hexadecimal::first(&body, second))
 }
 
 fn put_turned(text: &mut [u8; 65536], used: u16, turned: Turned) -> u16 {

@@ -6,7 +6,7 @@ use Rattle.refusals.specs.declared.Refusal.TheVariants.{OutOfRange}
 use Rattle.channels.specs.declared.Attribute.{Attribute}
 use Rattle.channels.specs.declared.Place.{Place}
 use Rattle.channels.specs.declared.Place.TheVariants.{Absent, Constant, Number}
-use Rattle.calibration.specs.Reading.{Answer, refused, numbers, scaledNumbers, reading, placeReading}
+use Rattle.calibration.specs.Reading.{Answer, refused, numbers, scaled_numbers, reading, place_reading}
 
 -- refusal 12, by the name of the number
 abbrev pub outside : {A : Type 0} → Quantity → Answer A
@@ -15,8 +15,8 @@ outside name = refused (OutOfRange name)
 -- the raw number that a place is read as, with a scaling value that is given: of the two, the first that is out of its range
 abbrev pub FirstOfPlace : (place : Place) (scaling : Attribute) → Quantity → Type 0
 FirstOfPlace Absent scaling name = ⊥
-FirstOfPlace Constant scaling name = (scaling.given ≡ true) × FirstOutside (scaledNumbers (pos 1) scaling.number) name
-FirstOfPlace (Number raw) scaling name = (scaling.given ≡ true) × FirstOutside (scaledNumbers raw scaling.number) name
+FirstOfPlace Constant scaling name = (scaling.given ≡ true) × FirstOutside (scaled_numbers (pos 1) scaling.number) name
+FirstOfPlace (Number raw) scaling name = (scaling.given ≡ true) × FirstOutside (scaled_numbers raw scaling.number) name
 
 -- ---- The claims
 
@@ -26,4 +26,4 @@ module _ {A : Type 0} (divided : (raw : ℤ) (e f : ℕ) → A) where
   NamesFirst = (raw : ℤ) (e f : ℕ) (name : Quantity) → (outside name ≡ reading divided raw e f) ↔ FirstOutside (numbers raw e f) name
 
   abbrev pub PlaceNamesFirst : Type 0
-  PlaceNamesFirst = (place : Place) (scaling : Attribute) (name : Quantity) → (outside name ≡ placeReading divided place scaling) ↔ FirstOfPlace place scaling name
+  PlaceNamesFirst = (place : Place) (scaling : Attribute) (name : Quantity) → (outside name ≡ place_reading divided place scaling) ↔ FirstOfPlace place scaling name

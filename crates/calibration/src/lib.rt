@@ -1,9 +1,9 @@
 // What a reading is made of (7.3.4.3): a raw number with E and F of its channel's scaling value, each in its range; or why there is no reading.
 ghost use Rattle.std.specs.Prelude.{◌≡◌};
-ghost use Rattle.refusals.specs.Ranges.{firstMisfit};
+ghost use Rattle.refusals.specs.Ranges.{first_misfit};
 ghost use Rattle.refusals.specs.declared.Judgement.TheVariants.{Refused};
 ghost use Rattle.refusals.specs.declared.Refusal.TheVariants.{OutOfRange};
-ghost use Rattle.calibration.specs.Reading.{numbers, reading, scaledReading, placeReading, operands, told};
+ghost use Rattle.calibration.specs.Reading.{numbers, reading, scaled_reading, place_reading, operands, told};
 
 use channels::{Attribute, Place};
 use refusals::{Judgement, Quantity, Refusal};
@@ -35,7 +35,7 @@ fn outside(quantity: Quantity) -> Judgement
 
 // Raw is from -32768 to 65535, E to 31, F to 2047: the first of them that is out of its range is refused.
 pub fn judge(raw: i64, e: u64, f: u64) -> Judgement
-    ensures { result ≡ firstMisfit (numbers raw e f) }
+    ensures { result ≡ first_misfit (numbers raw e f) }
 {
     if raw < -32768 {
         return outside(Quantity::Raw);
@@ -68,7 +68,7 @@ fn with_scale(raw: i64, e: u64, f: u64) -> Calibrated
 
 // A raw number with its channel's scaling value, 2048 * E + F. Without one the channel's calibration is unknown (7.3.4.3), and nothing else is looked at.
 fn with_scaling(raw: i64, scaling: Attribute) -> Calibrated
-    ensures { told result ≡ scaledReading operands raw scaling }
+    ensures { told result ≡ scaled_reading operands raw scaling }
 {
     let given = scaling.given;
     if !given {
@@ -84,7 +84,7 @@ fn with_scaling(raw: i64, scaling: Attribute) -> Calibrated
 
 // One place of a point, with its channel's scaling value: absent stays absent, whatever that is; a constant is read as raw 1.
 pub fn calibrate(place: Place, scaling: Attribute) -> Calibrated
-    ensures { told result ≡ placeReading operands place scaling }
+    ensures { told result ≡ place_reading operands place scaling }
 {
     match place {
         Place::Absent => Calibrated::Absent,

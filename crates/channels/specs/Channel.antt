@@ -61,25 +61,25 @@ unfoldable pub signed_of : ℕ → Bool
 signed_of channel = get_or signs channel false
 
 -- whether two formats are one
-unfoldable pub isSame : Format → Format → Bool
-isSame Full Full = true
-isSame Full Compact = false
-isSame Compact Full = false
-isSame Compact Compact = true
+unfoldable pub is_same : Format → Format → Bool
+is_same Full Full = true
+is_same Full Compact = false
+is_same Compact Full = false
+is_same Compact Compact = true
 
-pub same-is : (format other : Format) → isSame format other ≡ true → format ≡ other
-unfolding isSame
+pub same-is : (format other : Format) → is_same format other ≡ true → format ≡ other
+unfolding is_same
 same-is Full Full e = refl
 same-is Full Compact e = impossible (cc)
 same-is Compact Full e = impossible (cc)
 same-is Compact Compact e = refl
 
-pub is_same : (format other : Format) → format ≡ other → isSame format other ≡ true
-unfolding isSame
-is_same Full Full e = refl
-is_same Full Compact e = impossible (cc)
-is_same Compact Full e = impossible (cc)
-is_same Compact Compact e = refl
+pub is_same_lem : (format other : Format) → format ≡ other → is_same format other ≡ true
+unfolding is_same
+is_same_lem Full Full e = refl
+is_same_lem Full Compact e = impossible (cc)
+is_same_lem Compact Full e = impossible (cc)
+is_same_lem Compact Compact e = refl
 
 -- how many bytes a number has: two in the full format (7.3.4.4, 7.4.2), one in the compact one (8.2.2.4)
 abbrev pub width_of : Format → ℕ

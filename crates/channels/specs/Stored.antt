@@ -19,22 +19,22 @@ unfoldable pub value_of : ℕ → Bool → ℕ → ℤ
 value_of w signed n = pos n -ℤ offset w signed
 
 -- what is stored for a number
-unfoldable pub storedOf : ℕ → Bool → ℤ → ℕ
-storedOf w signed v = nat_abs (v +ℤ offset w signed)
+unfoldable pub stored_of : ℕ → Bool → ℤ → ℕ
+stored_of w signed v = nat_abs (v +ℤ offset w signed)
 
 -- the numbers that can be stored: with the offset added they are from 0 to below 256 ^ w
 unfoldable pub fits : ℕ → Bool → ℤ → Bool
 fits w signed v = non_neg (v +ℤ offset w signed) && lt_z (v +ℤ offset w signed) (pos (256 ^ w))
 
 -- what code answers
-unfoldable pub storedIf : ℕ → Bool → ℤ → Stored
-storedIf w signed v = cond (fits w signed v) (Number (storedOf w signed v)) Outside
+unfoldable pub stored_if : ℕ → Bool → ℤ → Stored
+stored_if w signed v = cond (fits w signed v) (Number (stored_of w signed v)) Outside
 
 -- ---- What follows, at every width
 
 module _ (w : ℕ) (signed : Bool) where
-  pub stored-value : (n : ℕ) → storedOf w signed (value_of w signed n) ≡ n
-  unfolding storedOf value_of
+  pub stored-value : (n : ℕ) → stored_of w signed (value_of w signed n) ≡ n
+  unfolding stored_of value_of
   stored-value n = ap nat_abs (-ℤ-+ℤ_cancel (pos n) (offset w signed))
 
   pub value-fits : (n : ℕ) → n < 256 ^ w → T (fits w signed (value_of w signed n))
@@ -45,12 +45,12 @@ module _ (w : ℕ) (signed : Bool) where
   below (pos n) h = (ltb→lt n (256 ^ w) h, refl)
   below (negsuc n) h = absurd h
 
-  pub stored-below : (v : ℤ) → T (fits w signed v) → storedOf w signed v < 256 ^ w
-  unfolding fits storedOf
+  pub stored-below : (v : ℤ) → T (fits w signed v) → stored_of w signed v < 256 ^ w
+  unfolding fits stored_of
   stored-below v h = (below (v +ℤ offset w signed) h).0
 
-  pub value-stored : (v : ℤ) → T (fits w signed v) → value_of w signed (storedOf w signed v) ≡ v
-  unfolding fits storedOf value_of
+  pub value-stored : (v : ℤ) → T (fits w signed v) → value_of w signed (stored_of w signed v) ≡ v
+  unfolding fits stored_of value_of
   value-stored v h = ap (λ z. z -ℤ offset w signed) (below (v +ℤ offset w signed) h).1 ∙ +ℤ-neg_ℤ_cancel v (offset w signed)
 
   -- what is stored for a number is how far it is above the least

@@ -2,10 +2,10 @@
 ghost use Rattle.std.specs.Prelude.{◌≡◌, ◌^◌, ◌≤◌, pos};
 ghost use Rattle.formats.specs.Binary.{bit, binary};
 ghost use Rattle.channels.specs.Bits.{moved};
-ghost use Rattle.channels.specs.Channel.{isSame, signs, signed_of, width_of};
-ghost use Rattle.channels.specs.Descriptors.{isStored, included, stored};
+ghost use Rattle.channels.specs.Channel.{is_same, signs, signed_of, width_of};
+ghost use Rattle.channels.specs.Descriptors.{is_stored, included, stored};
 ghost use Rattle.channels.specs.Stored as number;
-ghost use Rattle.channels.specs.Stored.{value_of, storedIf};
+ghost use Rattle.channels.specs.Stored.{value_of, stored_if};
 
 // The channels, by their place in the order of 7.3.4.1.
 pub const X: usize = 0; // position
@@ -76,7 +76,7 @@ pub struct Description {
 
 // Whether a format is another.
 pub fn is_same(format: Format, other: Format) -> bool
-    ensures { result ≡ isSame format other }
+    ensures { result ≡ is_same format other }
 {
     match format {
         Format::Full => match other {
@@ -92,7 +92,7 @@ pub fn is_same(format: Format, other: Format) -> bool
 
 // Whether a sample point holds a number for the channel.
 pub fn is_stored(d: Descriptor) -> bool
-    ensures { result ≡ isStored d }
+    ensures { result ≡ is_stored d }
 {
     d.included && !d.constant
 }
@@ -218,7 +218,7 @@ fn limit_of(format: Format) -> i64
 
 // What is stored for a number, where it is in the range.
 pub fn stored_of(format: Format, signed: bool, value: i32) -> Stored
-    ensures { result ≡ storedIf (width_of format) signed value }
+    ensures { result ≡ stored_if (width_of format) signed value }
 {
     let number = (value as i64) + (offset_of(format, signed) as i64);
     if number < 0 {

@@ -2,10 +2,10 @@
 use Rattle.std.specs.Prelude.{◌≡◌, List, ℕ, ℤ, length}
 use Rattle.formats.specs.OneAnswer.{OneAnswer, named}
 use Rattle.formats.specs.Reader.{run}
-use Rattle.records.specs.Record.{fullRecord}
-use Rattle.record_columns.specs.Columns.{columnsRead}
-use Rattle.column_costs.specs.Handed.{Handed, handing, handedFilling}
+use Rattle.records.specs.Record.{full_record}
+use Rattle.record_columns.specs.Columns.{columns_read}
+use Rattle.column_costs.specs.Handed.{Handed, handing, handed_filling}
 
 -- of the number and the values together
-pub one-filled : (s : List ℕ) (values : List ℤ) → OneAnswer (λ (h : Handed). handing h.number h.values ≡ handedFilling (columnsRead (length s) (run fullRecord s) values))
+pub one-filled : (s : List ℕ) (values : List ℤ) → OneAnswer (λ (h : Handed). handing h.number h.values ≡ handed_filling (columns_read (length s) (run full_record s) values))
 one-filled s values = named

@@ -12,9 +12,9 @@ pub record Handed : Type 0 where
 abbrev pub handing : ℕ → List ℤ → Handed
 handing number values = record { number = number; values = values }
 
-abbrev pub handedNumber : Filled → ℕ
-handedNumber Columns = 0
-handedNumber (Refused refusal) = number_of refusal
+abbrev pub handed_number : Filled → ℕ
+handed_number Columns = 0
+handed_number (Refused refusal) = number_of refusal
 
-unfoldable pub handedFilling : Filling → Handed
-handedFilling f = handing (handedNumber f.answer) f.values
+unfoldable pub handed_filling : Filling → Handed
+handed_filling f = handing (handed_number f.answer) f.values

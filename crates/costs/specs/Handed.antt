@@ -1,10 +1,10 @@
 -- What is handed over to C, by what the library answers: 0 for what was asked for, else the refusal's number.
 use Rattle.std.specs.Prelude.{Bool, false, cond, List, ℕ, ◌%◌, eqb, ℤ, pos, length, get_or, take, drop}
-use Rattle.formats.specs.Reader.{readAt}
+use Rattle.formats.specs.Reader.{read_at}
 use Rattle.formats.specs.Lent.{Writing, writing}
 use Rattle.formats.specs.declared.Outcome.{Outcome}
 use Rattle.formats.specs.declared.Outcome.TheVariants as outcome
-use Rattle.refusals.specs.Table.{number_of, place_of, refusalOf}
+use Rattle.refusals.specs.Table.{number_of, place_of, refusal_of}
 use Rattle.refusals.specs.declared.Where.{Where}
 use Rattle.refusals.specs.declared.Where.TheVariants.{At, Nowhere}
 use Rattle.refusals.specs.declared.Refusal.{Refusal}
@@ -46,8 +46,8 @@ use Rattle.costs.specs.declared.Read.{Read}
 -- ---- A channel, a refusal's place
 
 -- what a descriptor says, field by field
-abbrev pub handedDescriptor : Descriptor → Said
-handedDescriptor d = record {
+abbrev pub handed_descriptor : Descriptor → Said
+handed_descriptor d = record {
   included = d.included;
   constant = d.constant;
   detrended = d.detrended;
@@ -64,98 +64,98 @@ handedDescriptor d = record {
 }
 
 -- what a description says of one channel of the sixteen
-unfoldable pub handedChannel : (channel : ℕ) → Description → Said
-handedChannel channel d = handedDescriptor (get_or d.channels (channel % 16) absent)
+unfoldable pub handed_channel : (channel : ℕ) → Description → Said
+handed_channel channel d = handed_descriptor (get_or d.channels (channel % 16) absent)
 
 -- a place that is named, or 0
-abbrev pub handedWhere : Where → ℕ
-handedWhere (At byte) = byte
-handedWhere Nowhere = 0
+abbrev pub handed_where : Where → ℕ
+handed_where (At byte) = byte
+handed_where Nowhere = 0
 
-unfoldable pub handedPlace : Refusal → ℕ
-handedPlace refusal = handedWhere (place_of refusal)
+unfoldable pub handed_place : Refusal → ℕ
+handed_place refusal = handed_where (place_of refusal)
 
 -- ---- A record
 
-abbrev pub handedVerdict : Said → Verdict → Judgement
-handedVerdict said (verdict.Record length count extended) =
+abbrev pub handed_verdict : Said → Verdict → Judgement
+handed_verdict said (verdict.Record length count extended) =
     record { number = 0; place = length; count = count; extended = extended; said = said }
-handedVerdict said (verdict.Refused refusal) =
-    record { number = number_of refusal; place = handedPlace refusal; count = 0; extended = false; said = said }
+handed_verdict said (verdict.Refused refusal) =
+    record { number = number_of refusal; place = handed_place refusal; count = 0; extended = false; said = said }
 
-unfoldable pub handedJudgement : (channel : ℕ) → Judged → Judgement
-handedJudgement channel j = handedVerdict (handedChannel channel j.description) j.verdict
+unfoldable pub handed_judgement : (channel : ℕ) → Judged → Judgement
+handed_judgement channel j = handed_verdict (handed_channel channel j.description) j.verdict
 
 -- ---- A description
 
-abbrev pub handedOutcome : Said → Outcome → Told
-handedOutcome said (outcome.Done end) = record { number = 0; place = end; said = said }
-handedOutcome said (outcome.Failed failure) =
-    record { number = number_of (refusalOf failure); place = handedPlace (refusalOf failure); said = said }
+abbrev pub handed_outcome : Said → Outcome → Told
+handed_outcome said (outcome.Done end) = record { number = 0; place = end; said = said }
+handed_outcome said (outcome.Failed failure) =
+    record { number = number_of (refusal_of failure); place = handed_place (refusal_of failure); said = said }
 
-unfoldable pub handedDescription : (channel : ℕ) → Described → Told
-handedDescription channel d = handedOutcome (handedChannel channel d.description) d.outcome
+unfoldable pub handed_description : (channel : ℕ) → Described → Told
+handed_description channel d = handed_outcome (handed_channel channel d.description) d.outcome
 
 -- the format that is asked for
-unfoldable pub formatIf : (compact : Bool) → Format
-formatIf compact = cond compact Compact Full
+unfoldable pub format_if : (compact : Bool) → Format
+format_if compact = cond compact Compact Full
 
 -- what stands at the start of some bytes, in a format: the description that a writer is handed
-unfoldable pub readHeader : Format → List ℕ → Description
-readHeader format bytes = (described format (readAt (description format) bytes 0)).description
+unfoldable pub read_header : Format → List ℕ → Description
+read_header format bytes = (described format (read_at (description format) bytes 0)).description
 
 -- ---- A place of a point, a part of some bytes
 
-abbrev pub seatOf : Place → Seat
-seatOf Absent = record { kind = 0; value = pos 0 }
-seatOf Constant = record { kind = 1; value = pos 0 }
-seatOf (Number value) = record { kind = 2; value = value }
+abbrev pub seat_of : Place → Seat
+seat_of Absent = record { kind = 0; value = pos 0 }
+seat_of Constant = record { kind = 1; value = pos 0 }
+seat_of (Number value) = record { kind = 2; value = value }
 
 -- the place of one channel of the sixteen
-unfoldable pub handedPoint : (channel : ℕ) → List Place → Seat
-handedPoint channel places = seatOf (get_or places (channel % 16) Absent)
+unfoldable pub handed_point : (channel : ℕ) → List Place → Seat
+handed_point channel places = seat_of (get_or places (channel % 16) Absent)
 
 -- a place, as it is handed in
-unfoldable pub placeFrom : (kind : ℕ) (value : ℤ) → Place
-placeFrom kind value = cond (eqb kind 2) (Number value) (cond (eqb kind 1) Constant Absent)
+unfoldable pub place_from : (kind : ℕ) (value : ℤ) → Place
+place_from kind value = cond (eqb kind 2) (Number value) (cond (eqb kind 1) Constant Absent)
 
-unfoldable pub pieceOf : List ℕ → Piece
-pieceOf part = record { length = length part; first = get_or part 0 0 }
+unfoldable pub piece_of : List ℕ → Piece
+piece_of part = record { length = length part; first = get_or part 0 0 }
 
 -- the part of some bytes that starts at a place and has some size
-abbrev pub handedPart : (place size : ℕ) → List ℕ → Piece
-handedPart place size bytes = pieceOf (take size (drop place bytes))
+abbrev pub handed_part : (place size : ℕ) → List ℕ → Piece
+handed_part place size bytes = piece_of (take size (drop place bytes))
 
 -- ---- What was written: the answer, and the bytes as they are then
 
 abbrev pub wrote : (length : ℕ) → Done
 wrote length = record { number = 0; length = length }
 
-abbrev pub wroteNothing : Refusal → Done
-wroteNothing refusal = record { number = number_of refusal; length = 0 }
+abbrev pub wrote_nothing : Refusal → Done
+wrote_nothing refusal = record { number = number_of refusal; length = 0 }
 
-abbrev pub handedRecord : record-written.Written → Done
-handedRecord (record-written.TheVariants.Record length) = wrote length
-handedRecord (record-written.TheVariants.Refused refusal) = wroteNothing refusal
+abbrev pub handed_record : record-written.Written → Done
+handed_record (record-written.TheVariants.Record length) = wrote length
+handed_record (record-written.TheVariants.Refused refusal) = wrote_nothing refusal
 
-abbrev pub handedTemplate : template-written.Written → Done
-handedTemplate (template-written.TheVariants.Done length) = wrote length
-handedTemplate (template-written.TheVariants.Refused refusal) = wroteNothing refusal
+abbrev pub handed_template : template-written.Written → Done
+handed_template (template-written.TheVariants.Done length) = wrote length
+handed_template (template-written.TheVariants.Refused refusal) = wrote_nothing refusal
 
-abbrev pub handedWriting : {Answer : Type 0} → (Answer → Done) → Writing Answer → Writing Done
-handedWriting handed w = writing (handed w.answer) w.bytes
+abbrev pub handed_writing : {Answer : Type 0} → (Answer → Done) → Writing Answer → Writing Done
+handed_writing handed w = writing (handed w.answer) w.bytes
 
 -- ---- A step over a file
 
-abbrev pub handedFound : (next : ℕ) → Found → Stepped
-handedFound next (found.Record length count extended) =
+abbrev pub handed_found : (next : ℕ) → Found → Stepped
+handed_found next (found.Record length count extended) =
     record { number = 0; place = length; count = count; extended = extended; next = next }
-handedFound next found.End = record { number = 100; place = 0; count = 0; extended = false; next = next }
-handedFound next (found.Refused refusal) =
-    record { number = number_of refusal; place = handedPlace refusal; count = 0; extended = false; next = next }
+handed_found next found.End = record { number = 100; place = 0; count = 0; extended = false; next = next }
+handed_found next (found.Refused refusal) =
+    record { number = number_of refusal; place = handed_place refusal; count = 0; extended = false; next = next }
 
-unfoldable pub handedStep : Step → Stepped
-handedStep step = handedFound step.next step.found
+unfoldable pub handed_step : Step → Stepped
+handed_step step = handed_found step.next step.found
 
 -- ---- A template
 
@@ -167,23 +167,23 @@ templated channel number place t = record {
   described = t.described;
   limited = t.limited;
   maximum = t.maximum;
-  said = handedChannel channel t.description;
+  said = handed_channel channel t.description;
 }
 
-abbrev pub handedStage : (channel : ℕ) → Template → stages.Judgement → Templated
-handedStage channel t stage.Passed = templated channel 0 0 t
-handedStage channel t (stage.Refused refusal) = templated channel (number_of refusal) (handedPlace refusal) t
+abbrev pub handed_stage : (channel : ℕ) → Template → stages.Judgement → Templated
+handed_stage channel t stage.Passed = templated channel 0 0 t
+handed_stage channel t (stage.Refused refusal) = templated channel (number_of refusal) (handed_place refusal) t
 
-unfoldable pub handedReadTemplate : (channel : ℕ) → template.Judged → Templated
-handedReadTemplate channel j = handedStage channel j.template j.verdict
+unfoldable pub handed_read_template : (channel : ℕ) → template.Judged → Templated
+handed_read_template channel j = handed_stage channel j.template j.verdict
 
 -- ---- A reading
 
-abbrev pub handedReading : readings.Answer → Read
-handedReading (calibration.value z) = record { number = 0; thousandths = z }
-handedReading calibration.absent = record { number = 1; thousandths = pos 0 }
-handedReading (calibration.refused refusal) = record { number = number_of refusal; thousandths = pos 0 }
+abbrev pub handed_reading : readings.Answer → Read
+handed_reading (calibration.value z) = record { number = 0; thousandths = z }
+handed_reading calibration.absent = record { number = 1; thousandths = pos 0 }
+handed_reading (calibration.refused refusal) = record { number = number_of refusal; thousandths = pos 0 }
 
 -- a scaling value, as it is handed in
-abbrev pub scalingFrom : (given : Bool) (number : ℤ) → Attribute
-scalingFrom given number = record { given = given; number = number }
+abbrev pub scaling_from : (given : Bool) (number : ℤ) → Attribute
+scaling_from given number = record { given = given; number = number }

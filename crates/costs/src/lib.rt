@@ -2,21 +2,21 @@
 // An answer is handed over in plain numbers: 0 for what was asked for, else the refusal's number.
 // Of sixteen descriptors or places the one that is asked for is handed over, so that all have to be made.
 ghost use Rattle.std.specs.Prelude.{◌≡◌, true, length};
-ghost use Rattle.formats.specs.Reader.{run, readAt};
+ghost use Rattle.formats.specs.Reader.{run, read_at};
 ghost use Rattle.formats.specs.Lent.{writing};
 ghost use Rattle.channels.specs.declared.Format.TheVariants.{Full, Compact};
 ghost use Rattle.descriptions.specs.Description.{description};
 ghost use Rattle.descriptions.specs.Read.{described};
-ghost use Rattle.records.specs.Record.{fullRecord};
+ghost use Rattle.records.specs.Record.{full_record};
 ghost use Rattle.record_reading.specs.Verdict.{judged};
-ghost use Rattle.record_points.specs.Pointing.{placesIn};
-ghost use Rattle.record_parts.specs.Parts.{extendedPlace, extendedSize, restPlace, restSize};
-ghost use Rattle.record_writing.specs.Write.{writeOf};
+ghost use Rattle.record_points.specs.Pointing.{places_in};
+ghost use Rattle.record_parts.specs.Parts.{extended_place, extended_size, rest_place, rest_size};
+ghost use Rattle.record_writing.specs.Write.{write_of};
 ghost use Rattle.walks.specs.Walk.{step_of};
-ghost use Rattle.templates.specs.Reading.{templateOf};
+ghost use Rattle.templates.specs.Reading.{template_of};
 ghost use Rattle.template_writing.specs.Writing as template;
-ghost use Rattle.readings.specs.Thousandths.{told, toldPlace, reading, placeReading};
-ghost use Rattle.costs.specs.Handed.{handedDescriptor, handedPlace, handedJudgement, handedDescription, formatIf, readHeader, seatOf, handedPoint, placeFrom, pieceOf, handedPart, handedRecord, handedTemplate, handedWriting, handedStep, handedReadTemplate, handedReading, scalingFrom};
+ghost use Rattle.readings.specs.Thousandths.{told, told_place, reading, place_reading};
+ghost use Rattle.costs.specs.Handed.{handed_descriptor, handed_place, handed_judgement, handed_description, format_if, read_header, seat_of, handed_point, place_from, piece_of, handed_part, handed_record, handed_template, handed_writing, handed_step, handed_read_template, handed_reading, scaling_from};
 
 use channels::{Attribute, Descriptor, Format, Place};
 use formats::Outcome;
@@ -45,7 +45,7 @@ pub struct Said {
 }
 
 fn said_of(d: Descriptor) -> Said
-    ensures { result ≡ handedDescriptor d }
+    ensures { result ≡ handed_descriptor d }
 {
     Said {
         included: d.included,
@@ -66,7 +66,7 @@ fn said_of(d: Descriptor) -> Said
 
 // The place that a refusal names, or 0.
 fn place_of(refusal: Refusal) -> usize
-    ensures { result ≡ handedPlace refusal }
+    ensures { result ≡ handed_place refusal }
 {
     let place = refusals::place(refusal);
     match place {
@@ -88,7 +88,7 @@ pub struct Judgement {
 
 #[unsafe(no_mangle)]
 pub extern "C" fn costs_judge(bytes: &[u8], channel: usize) -> Judgement
-    ensures { result ≡ handedJudgement channel (judged (run fullRecord bytes.now)) }
+    ensures { result ≡ handed_judgement channel (judged (run full_record bytes.now)) }
 {
     let judged = record_reading::judge(bytes);
     let description = judged.description;
@@ -129,7 +129,7 @@ pub struct Told {
 
 #[unsafe(no_mangle)]
 pub extern "C" fn costs_describe(bytes: &[u8], compact: bool, channel: usize) -> Told
-    ensures { result ≡ handedDescription channel (described (formatIf compact) (readAt (description (formatIf compact)) bytes.now 0)) }
+    ensures { result ≡ handed_description channel (described (format_if compact) (read_at (description (format_if compact)) bytes.now 0)) }
 {
     let format = if compact {
         Format::Compact
@@ -168,7 +168,7 @@ pub struct Seat {
 }
 
 fn seat_of(place: Place) -> Seat
-    ensures { result ≡ seatOf place }
+    ensures { result ≡ seat_of place }
 {
     match place {
         Place::Absent => Seat { kind: 0, value: 0 },
@@ -182,7 +182,7 @@ fn seat_of(place: Place) -> Seat
 
 #[unsafe(no_mangle)]
 pub extern "C" fn costs_point(bytes: &[u8], index: usize, channel: usize) -> Seat
-    ensures { result ≡ handedPoint channel (placesIn index (run fullRecord bytes.now)) }
+    ensures { result ≡ handed_point channel (places_in index (run full_record bytes.now)) }
 {
     let places = record_points::point(bytes, index);
     let of = channel % 16;
@@ -199,7 +199,7 @@ pub struct Piece {
 }
 
 fn piece_of(part: &[u8]) -> Piece
-    ensures { result ≡ pieceOf part.now }
+    ensures { result ≡ piece_of part.now }
 {
     let length = part.len();
     if length == 0 {
@@ -216,14 +216,14 @@ fn piece_of(part: &[u8]) -> Piece
 
 #[unsafe(no_mangle)]
 pub extern "C" fn costs_extended(bytes: &[u8]) -> Piece
-    ensures { result ≡ handedPart (extendedPlace (run fullRecord bytes.now)) (extendedSize (run fullRecord bytes.now)) bytes.now }
+    ensures { result ≡ handed_part (extended_place (run full_record bytes.now)) (extended_size (run full_record bytes.now)) bytes.now }
 {
     piece_of(record_parts::extended(bytes))
 }
 
 #[unsafe(no_mangle)]
 pub extern "C" fn costs_rest(bytes: &[u8]) -> Piece
-    ensures { result ≡ handedPart (restPlace (run fullRecord bytes.now)) (restSize (length bytes.now) (run fullRecord bytes.now)) bytes.now }
+    ensures { result ≡ handed_part (rest_place (run full_record bytes.now)) (rest_size (length bytes.now) (run full_record bytes.now)) bytes.now }
 {
     piece_of(record_parts::rest(bytes))
 }
@@ -246,7 +246,7 @@ pub extern "C" fn costs_write(
     extended: &[u8],
     out: &mut [u8],
 ) -> Done
-    ensures { writing result out.new ≡ handedWriting handedRecord (writeOf (readHeader Full header.now) count values.now wanted extended.now out.old) }
+    ensures { writing result out.new ≡ handed_writing handed_record (write_of (read_header Full header.now) count values.now wanted extended.now out.old) }
 {
     let described = descriptions::read(header, 0, Format::Full);
     let description = described.description;
@@ -276,7 +276,7 @@ pub struct Stepped {
 
 #[unsafe(no_mangle)]
 pub extern "C" fn costs_step(file: &[u8], place: usize) -> Stepped
-    ensures { result ≡ handedStep (step_of file.now place) }
+    ensures { result ≡ handed_step (step_of file.now place) }
 {
     let step = walks::step_at(file, place);
     let next = step.next;
@@ -324,7 +324,7 @@ pub struct Templated {
 
 #[unsafe(no_mangle)]
 pub extern "C" fn costs_read_template(bytes: &[u8], channel: usize) -> Templated
-    ensures { result ≡ handedReadTemplate channel (templateOf bytes.now) }
+    ensures { result ≡ handed_read_template channel (template_of bytes.now) }
 {
     let judged = templates::read(bytes);
     let template = judged.template;
@@ -361,7 +361,7 @@ pub extern "C" fn costs_write_template(
     maximum: u32,
     out: &mut [u8],
 ) -> Done
-    ensures { writing result out.new ≡ handedWriting handedTemplate (template.writeOf true (readHeader Compact header.now) limited maximum out.old) }
+    ensures { writing result out.new ≡ handed_writing handed_template (template.write_of true (read_header Compact header.now) limited maximum out.old) }
 {
     let described = descriptions::read(header, 0, Format::Compact);
     let description = described.description;
@@ -387,7 +387,7 @@ pub struct Read {
 }
 
 fn read_of(reading: Reading) -> Read
-    ensures { result ≡ handedReading (told reading) }
+    ensures { result ≡ handed_reading (told reading) }
 {
     match reading {
         Reading::Thousandths(n) => Read {
@@ -403,13 +403,13 @@ fn read_of(reading: Reading) -> Read
 
 #[unsafe(no_mangle)]
 pub extern "C" fn costs_thousandths(raw: i64, e: u64, f: u64) -> Read
-    ensures { result ≡ handedReading (reading raw e f) }
+    ensures { result ≡ handed_reading (reading raw e f) }
 {
     read_of(readings::to_thousandths(raw, e, f))
 }
 
 fn read_of_place(reading: PlaceReading) -> Read
-    ensures { result ≡ handedReading (toldPlace reading) }
+    ensures { result ≡ handed_reading (told_place reading) }
 {
     match reading {
         PlaceReading::Absent => Read {
@@ -423,7 +423,7 @@ fn read_of_place(reading: PlaceReading) -> Read
 // A place is handed in as a `Seat` has it.
 #[unsafe(no_mangle)]
 pub extern "C" fn costs_place(kind: u64, value: i32, given: bool, number: i32) -> Read
-    ensures { result ≡ handedReading (placeReading (placeFrom kind value) (scalingFrom given number)) }
+    ensures { result ≡ handed_reading (place_reading (place_from kind value) (scaling_from given number)) }
 {
     let scaling = Attribute {
         given: given,

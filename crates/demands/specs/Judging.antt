@@ -2,16 +2,16 @@
 use Rattle.std.specs.Prelude.{◌≡◌, ◌↔◌, ◌≢◌, ◌⊎◌, Bool, List, [], ℕ, suc, ◌-◌, ◌≤◌, ◌<◌, length, take, drop, get_or}
 use Rattle.std.proofs.Common.{sym, ap, ◌∙◌, arith, take_all}
 use Rattle.formats.specs.Bytes.{Bytes, bytes_drop}
-use Rattle.formats.specs.Reader.{bad, run, readAt}
+use Rattle.formats.specs.Reader.{bad, run, read_at}
 use Rattle.formats.specs.Law.{whole}
 use Rattle.refusals.specs.declared.Refusal.{Refusal}
 use Rattle.refusals.specs.declared.Refusal.TheVariants.{Short, LeftOver}
-use Rattle.records.specs.Record.{fullRecord, IsRecord}
+use Rattle.records.specs.Record.{full_record, IsRecord}
 use Rattle.records.specs.Rules.{Breaks}
 use Rattle.records.specs.Demands as demands
 use Rattle.records.specs.Demands.{Begins}
 use Rattle.records.specs.Blame as blame
-use Rattle.record_reading.specs.Verdict.{judgedWhole}
+use Rattle.record_reading.specs.Verdict.{judged_whole}
 use Rattle.record_reading.specs.declared.Verdict.{Verdict}
 use Rattle.record_reading.specs.declared.Verdict.TheVariants as verdict
 use Rattle.record_reading.specs.declared.Judged.{Judged}
@@ -20,7 +20,7 @@ use Rattle.demands.specs.Saying.{saying, Accepts, Refuses, Sayable}
 use Rattle.demands.specs.JudgingLaws.{Numbered, is-record, whole-is-read, record-is-read, record-read, read-judged, accepts, short-read, read_short, refused-read, read-refused, all_said, numbered-moved, record-moved, short-moved, refused-moved, whole-fits, whole-left, whole-refused, whole-read, left-read, whole-said}
 
 module _ (s : List ℕ) (bytes : Bytes s) where
-  numbered : Numbered (run fullRecord s)
+  numbered : Numbered (run full_record s)
   numbered = blame.no-other-number s bytes
 
   -- ---- The front of some bytes: judge
@@ -31,27 +31,27 @@ module _ (s : List ℕ) (bytes : Bytes s) where
     short-exactly = (to, from)
       where
         to : r.verdict ≡ verdict.Refused Short → (x : Begins s) × (x.rest ≢ [])
-        to e = let y = (demands.short-exactly s bytes).0 (short-read 0 (run fullRecord s) numbered (rw answers at e)) in (y.0, y.1)
+        to e = let y = (demands.short-exactly s bytes).0 (short-read 0 (run full_record s) numbered (rw answers at e)) in (y.0, y.1)
 
         from : (x : Begins s) × (x.rest ≢ []) → r.verdict ≡ verdict.Refused Short
-        from x = rw answers (read_short 0 (run fullRecord s) ((demands.short-exactly s bytes).1 (x.0, x.1)))
+        from x = rw answers (read_short 0 (run full_record s) ((demands.short-exactly s bytes).1 (x.0, x.1)))
 
     -- of a record, whatever follows it, judge says its length, count and description, and whether it has extended data
     pub record-told : (n : ℕ) → n ≤ length s → (x : IsRecord (take n s)) → r ≡ saying n x.value
-    record-told n h x = answers ∙ read-judged (run fullRecord s) x.value n (record-is-read s n h x)
+    record-told n h x = answers ∙ read-judged (run full_record s) x.value n (record-is-read s n h x)
 
     -- judge says a record of n bytes exactly when the first n bytes are a record
     pub record-exactly : (n : ℕ) → Accepts r.verdict n ↔ ((n ≤ length s) × IsRecord (take n s))
     record-exactly n = (to, λ x. accepts n x.1.value (record-told n x.0 x.1))
       where
         to : Accepts r.verdict n → (n ≤ length s) × IsRecord (take n s)
-        to x = let q = record-read (run fullRecord s) n (rw answers at x) in ((whole fullRecord s q.1).within, is-record s bytes q.0 n q.1)
+        to x = let q = record-read (run full_record s) n (rw answers at x) in ((whole full_record s q.1).within, is-record s bytes q.0 n q.1)
 
-    as_read : (number place : ℕ) → Refuses r.verdict number place → run fullRecord s ≡ bad number place
-    as_read number place x = refused-read 0 (run fullRecord s) numbered number place (rw answers at x)
+    as_read : (number place : ℕ) → Refuses r.verdict number place → run full_record s ≡ bad number place
+    as_read number place x = refused-read 0 (run full_record s) numbered number place (rw answers at x)
 
-    as-refused : (number place : ℕ) → run fullRecord s ≡ bad number place → Refuses r.verdict number place
-    as-refused number place e = rw answers (read-refused 0 (run fullRecord s) numbered number place e)
+    as-refused : (number place : ℕ) → run full_record s ≡ bad number place → Refuses r.verdict number place
+    as-refused number place e = rw answers (read-refused 0 (run full_record s) numbered number place e)
 
     -- judge refuses a byte with a number exactly when that byte breaks the rule of that number, behind bytes that break none
     pub refused-exactly : (number place : ℕ) → Refuses r.verdict number place ↔ ((place < length s) × Breaks (take place s) (get_or s place 0) number)
@@ -70,46 +70,46 @@ module _ (s : List ℕ) (bytes : Bytes s) where
 
     -- judge says nothing else: a record, or 1, or a byte refused with a number from 2 to 8
     pub nothing-else : Sayable r.verdict
-    nothing-else = rw answers (all_said 0 (run fullRecord s) numbered)
+    nothing-else = rw answers (all_said 0 (run full_record s) numbered)
 
   -- ---- From a place on: verdict_at
 
   -- it says what judge says of the bytes from there on
-  module _ (start : ℕ) (r : Verdict) (answers : promises.verdictAt s start r) (q : Judged) (judges : promises.judge (drop start s) q) where
-    numbered-behind : Numbered (run fullRecord (drop start s))
+  module _ (start : ℕ) (r : Verdict) (answers : promises.verdict_at s start r) (q : Judged) (judges : promises.judge (drop start s) q) where
+    numbered-behind : Numbered (run full_record (drop start s))
     numbered-behind = blame.no-other-number (drop start s) (bytes_drop start s bytes)
 
     -- the same record
     pub record-at : (n count : ℕ) (extended : Bool) → (r ≡ verdict.Record n count extended) ↔ (q.verdict ≡ verdict.Record n count extended)
-    unfolding readAt
-    record-at n count extended = rw (answers, judges) (record-moved start (run fullRecord (drop start s)) n count extended)
+    unfolding read_at
+    record-at n count extended = rw (answers, judges) (record-moved start (run full_record (drop start s)) n count extended)
 
     -- short alike
     pub short-at : (r ≡ verdict.Refused Short) ↔ (q.verdict ≡ verdict.Refused Short)
-    unfolding readAt
-    short-at = rw (answers, judges) (short-moved start (run fullRecord (drop start s)) numbered-behind)
+    unfolding read_at
+    short-at = rw (answers, judges) (short-moved start (run full_record (drop start s)) numbered-behind)
 
     -- and the same byte refused with the same number, its place counted from the start of all
     pub refused-at : (number place : ℕ) → Refuses r number place ↔ ((start ≤ place) × Refuses q.verdict number (place - start))
-    unfolding readAt
-    refused-at number place = rw (answers, judges) (refused-moved start (run fullRecord (drop start s)) numbered-behind number place)
+    unfolding read_at
+    refused-at number place = rw (answers, judges) (refused-moved start (run full_record (drop start s)) numbered-behind number place)
 
     -- it says nothing else either
     pub nothing-else-at : Sayable r
-    unfolding readAt
-    nothing-else-at = rw answers (all_said start (readAt fullRecord s start) (numbered-moved start (run fullRecord (drop start s)) numbered-behind))
+    unfolding read_at
+    nothing-else-at = rw answers (all_said start (read_at full_record s start) (numbered-moved start (run full_record (drop start s)) numbered-behind))
 
   -- ---- A whole slice: judge_whole
 
-  module _ (r : Judged) (answers : promises.judgeWhole s r) where
+  module _ (r : Judged) (answers : promises.judge_whole s r) where
     -- of a record judge_whole says its length, which is the slice's, its count and description, and whether it has extended data
     pub whole-told : (x : IsRecord s) → r ≡ saying (length s) x.value
-    whole-told x = answers ∙ ap (judgedWhole (length s)) (whole-is-read x) ∙ whole-fits (length s) x.value (length s) (omega arith)
+    whole-told x = answers ∙ ap (judged_whole (length s)) (whole-is-read x) ∙ whole-fits (length s) x.value (length s) (omega arith)
 
     taken : (n : ℕ) → Accepts r.verdict n → (n ≡ length s) × IsRecord (take n s)
     taken n x =
-        let q = whole-read (length s) (run fullRecord s) n (rw answers at x) in
-        (omega (arith, q.2, (whole fullRecord s q.1).within), is-record s bytes q.0 n q.1)
+        let q = whole-read (length s) (run full_record s) n (rw answers at x) in
+        (omega (arith, q.2, (whole full_record s q.1).within), is-record s bytes q.0 n q.1)
 
     -- judge_whole says a record exactly when the slice is a record
     pub whole-exactly : ((n : ℕ) × Accepts r.verdict n) ↔ IsRecord s
@@ -127,17 +127,17 @@ module _ (s : List ℕ) (bytes : Bytes s) where
     left-over-exactly place = (to, from)
       where
         to : r.verdict ≡ verdict.Refused (LeftOver place) → (place < length s) × IsRecord (take place s)
-        to e = let q = left-read (length s) (run fullRecord s) numbered place (rw answers at e) in (q.2, is-record s bytes q.0 place q.1)
+        to e = let q = left-read (length s) (run full_record s) numbered place (rw answers at e) in (q.2, is-record s bytes q.0 place q.1)
 
         from : (place < length s) × IsRecord (take place s) → r.verdict ≡ verdict.Refused (LeftOver place)
         from x =
             let read = record-is-read s place (omega (arith, x.0)) x.1 in
-            ap (λ v. v.verdict) (answers ∙ ap (judgedWhole (length s)) read ∙ whole-left (length s) x.1.value place x.0)
+            ap (λ v. v.verdict) (answers ∙ ap (judged_whole (length s)) read ∙ whole-left (length s) x.1.value place x.0)
 
     -- what judge refuses judge_whole refuses alike
     pub refused-alike : (q : Judged) → promises.judge s q → (refusal : Refusal) → q.verdict ≡ verdict.Refused refusal → r ≡ q
-    refused-alike q e refusal x = answers ∙ whole-refused (length s) (run fullRecord s) refusal (rw e at x) ∙ sym e
+    refused-alike q e refusal x = answers ∙ whole-refused (length s) (run full_record s) refusal (rw e at x) ∙ sym e
 
     -- judge_whole says nothing else: what judge may say, or bytes left over
     pub whole-nothing-else : Sayable r.verdict ⊎ ((place : ℕ) × (r.verdict ≡ verdict.Refused (LeftOver place)))
-    whole-nothing-else = rw answers (whole-said (length s) (run fullRecord s) numbered)
+    whole-nothing-else = rw answers (whole-said (length s) (run full_record s) numbered)

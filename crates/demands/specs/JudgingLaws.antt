@@ -12,44 +12,44 @@ use Rattle.formats.specs.Bytes.{Bytes, impossible}
 use Rattle.formats.specs.Reader.{Answer, ok, short, bad, after, run}
 use Rattle.formats.specs.Law.{reads-append}
 use Rattle.formats.specs.declared.Failure.TheVariants as failure
-use Rattle.refusals.specs.Table.{number_of, place_of, refusalOf}
+use Rattle.refusals.specs.Table.{number_of, place_of, refusal_of}
 use Rattle.refusals.specs.Laws.{bad-refusal}
 use Rattle.refusals.specs.declared.Where.TheVariants.{At}
 use Rattle.refusals.specs.declared.Refusal.{Refusal}
 use Rattle.refusals.specs.declared.Refusal.TheVariants.{Short, LeftOver}
-use Rattle.records.specs.Record.{Record, fullRecord, encode, IsRecord, present}
+use Rattle.records.specs.Record.{Record, full_record, encode, IsRecord, present}
 use Rattle.records.specs.Demands.{read-after-write, write-after-read}
-use Rattle.record_reading.specs.Verdict.{verdictFrom, descriptionIn, judged, unjudged, judgedWhole}
+use Rattle.record_reading.specs.Verdict.{verdict_from, description_in, judged, unjudged, judged_whole}
 use Rattle.record_reading.specs.declared.Verdict.TheVariants as verdict
 use Rattle.record_reading.specs.declared.Judged.{Judged}
-use Rattle.demands.specs.Saying.{saying, Accepts, Refuses, Sayable, aRecord, tooShort, refusedAt}
+use Rattle.demands.specs.Saying.{saying, Accepts, Refuses, Sayable, a_record, too_short, refused_at}
 
 -- ---- A record, and its reading
 
 -- what reading takes is a record
-pub is-record : (s : List ℕ) → Bytes s → (q : Record) (n : ℕ) → run fullRecord s ≡ ok q n → IsRecord (take n s)
+pub is-record : (s : List ℕ) → Bytes s → (q : Record) (n : ℕ) → run full_record s ≡ ok q n → IsRecord (take n s)
 is-record s bytes q n e = let x = write-after-read s q n bytes e in record { value = q; valid = x.0; written = x.1 }
 
 -- and a record is taken, whatever follows it
-pub whole-is-read : {s : List ℕ} (x : IsRecord s) → run fullRecord s ≡ ok x.value (length s)
+pub whole-is-read : {s : List ℕ} (x : IsRecord s) → run full_record s ≡ ok x.value (length s)
 whole-is-read x =
-    ap (run fullRecord) (x.written ∙ sym (append-nil (encode x.value)))
+    ap (run full_record) (x.written ∙ sym (append-nil (encode x.value)))
     ∙ read-after-write x.value [] x.valid
     ∙ ap (λ b. ok x.value (length b)) (sym x.written)
 
-pub record-is-read : (s : List ℕ) (n : ℕ) → n ≤ length s → (x : IsRecord (take n s)) → run fullRecord s ≡ ok x.value n
+pub record-is-read : (s : List ℕ) (n : ℕ) → n ≤ length s → (x : IsRecord (take n s)) → run full_record s ≡ ok x.value n
 record-is-read s n h x =
-    ap (run fullRecord) (sym (take-append-drop n s)) ∙ reads-append fullRecord (take n s) (drop n s) (whole-is-read x) ∙ ap (ok x.value) (length-take-le n s h)
+    ap (run full_record) (sym (take-append-drop n s)) ∙ reads-append full_record (take n s) (drop n s) (whole-is-read x) ∙ ap (ok x.value) (length-take-le n s h)
 
 -- ---- By judge, and from a start
 
 ok-judged : (q : Record) (n : ℕ) → judged (ok q n) ≡ saying n q
-unfolding verdictFrom descriptionIn
+unfolding verdict_from description_in
 ok-judged q n = λ i. record { verdict = verdict.Record (sub-zero n i) (length q.points) (present q.extended); description = q.description }
 
 -- it says a record where reading took one
 pub record-read : (a : Answer Record) (n : ℕ) → Accepts (judged a).verdict n → (q : Record) × (a ≡ ok q n)
-unfolding verdictFrom
+unfolding verdict_from
 record-read (ok q m) n x = let z : m - 0 ≡ n = cc x.accepted in (q, ap (ok q) (sym (sub-zero m) ∙ z))
 record-read short n x = impossible (cc x.accepted)
 record-read (bad k p) n x = impossible (cc x.accepted)
@@ -71,21 +71,21 @@ same-refusal : {x y : Refusal} → verdict.Refused x ≡ verdict.Refused y → x
 same-refusal e = cc
 
 -- it says short where reading did
-pub short-read : (start : ℕ) (a : Answer Record) → Numbered a → verdictFrom start a ≡ verdict.Refused Short → a ≡ short
-unfolding verdictFrom
+pub short-read : (start : ℕ) (a : Answer Record) → Numbered a → verdict_from start a ≡ verdict.Refused Short → a ≡ short
+unfolding verdict_from
 short-read start (ok q n) h e = impossible (cc)
 short-read start short h e = refl
 short-read start (bad k p) h e =
     let bounds = h k p refl in
     absurd (omega (arith, bounds.0, (bad-refusal k p bounds.0 (omega (arith, bounds.1))).0, ap number_of (same-refusal e)))
 
-pub read_short : (start : ℕ) (a : Answer Record) → a ≡ short → verdictFrom start a ≡ verdict.Refused Short
-unfolding verdictFrom refusalOf
-read_short start a e = ap (verdictFrom start) e
+pub read_short : (start : ℕ) (a : Answer Record) → a ≡ short → verdict_from start a ≡ verdict.Refused Short
+unfolding verdict_from refusal_of
+read_short start a e = ap (verdict_from start) e
 
 -- and it refuses a byte where reading did
-pub refused-read : (start : ℕ) (a : Answer Record) → Numbered a → (k p : ℕ) → Refuses (verdictFrom start a) k p → a ≡ bad k p
-unfolding verdictFrom refusalOf
+pub refused-read : (start : ℕ) (a : Answer Record) → Numbered a → (k p : ℕ) → Refuses (verdict_from start a) k p → a ≡ bad k p
+unfolding verdict_from refusal_of
 refused-read start (ok q n) h k p x = impossible (cc x.refused)
 refused-read start short h k p x =
     let e : Short ≡ x.refusal = same-refusal x.refused in
@@ -98,19 +98,19 @@ refused-read start (bad j i) h k p x =
     let place : i ≡ p = one_place (sym law.1 ∙ ap place_of e ∙ x.placed) in
     rw (number, place)
 
-pub read-refused : (start : ℕ) (a : Answer Record) → Numbered a → (k p : ℕ) → a ≡ bad k p → Refuses (verdictFrom start a) k p
-unfolding verdictFrom
+pub read-refused : (start : ℕ) (a : Answer Record) → Numbered a → (k p : ℕ) → a ≡ bad k p → Refuses (verdict_from start a) k p
+unfolding verdict_from
 read-refused start a h k p e =
     let bounds = h k p e in
     let law = bad-refusal k p bounds.0 (omega (arith, bounds.1)) in
-    record { refusal = refusalOf (failure.Bad k p); refused = ap (verdictFrom start) e; numbered = law.0; placed = law.1 }
+    record { refusal = refusal_of (failure.Bad k p); refused = ap (verdict_from start) e; numbered = law.0; placed = law.1 }
 
 -- it says nothing else
-pub all_said : (start : ℕ) (a : Answer Record) → Numbered a → Sayable (verdictFrom start a)
-unfolding verdictFrom refusalOf
-all_said start (ok q n) h = aRecord (n - start) (record { count = length q.points; extended = present q.extended; accepted = refl })
-all_said start short h = tooShort refl
-all_said start (bad k p) h = let bounds = h k p refl in refusedAt k p bounds.0 bounds.1 (read-refused start (bad k p) h k p refl)
+pub all_said : (start : ℕ) (a : Answer Record) → Numbered a → Sayable (verdict_from start a)
+unfolding verdict_from refusal_of
+all_said start (ok q n) h = a_record (n - start) (record { count = length q.points; extended = present q.extended; accepted = refl })
+all_said start short h = too_short refl
+all_said start (bad k p) h = let bounds = h k p refl in refused_at k p bounds.0 bounds.1 (read-refused start (bad k p) h k p refl)
 
 -- ---- By verdict_at
 
@@ -139,15 +139,15 @@ module _ (start : ℕ) where
   numbered-moved a h k p e = h k (p - start) (moved-bad a k p e).1
 
   -- a record alike, and short alike
-  pub record-moved : (a : Answer Record) (n count : ℕ) (extended : Bool) → (verdictFrom start (after start a) ≡ verdict.Record n count extended) ↔ ((judged a).verdict ≡ verdict.Record n count extended)
-  unfolding verdictFrom after
+  pub record-moved : (a : Answer Record) (n count : ℕ) (extended : Bool) → (verdict_from start (after start a) ≡ verdict.Record n count extended) ↔ ((judged a).verdict ≡ verdict.Record n count extended)
+  unfolding verdict_from after
   record-moved (ok q m) n count extended =
       let z : start + m - start ≡ m - 0 = omega arith in
       rw z (λ e. e, λ e. e)
   record-moved short n count extended = (λ e. e, λ e. e)
   record-moved (bad k p) n count extended = (λ e. impossible (cc), λ e. impossible (cc))
 
-  pub short-moved : (a : Answer Record) → Numbered a → (verdictFrom start (after start a) ≡ verdict.Refused Short) ↔ ((judged a).verdict ≡ verdict.Refused Short)
+  pub short-moved : (a : Answer Record) → Numbered a → (verdict_from start (after start a) ≡ verdict.Refused Short) ↔ ((judged a).verdict ≡ verdict.Refused Short)
   unfolding after
   short-moved a h = (
     λ e. read_short 0 a (moved-short a (short-read start (after start a) (numbered-moved a h) e)),
@@ -155,37 +155,37 @@ module _ (start : ℕ) where
   )
 
   -- and a byte refused alike, with its place counted from the start
-  pub refused-moved : (a : Answer Record) → Numbered a → (k p : ℕ) → Refuses (verdictFrom start (after start a)) k p ↔ ((start ≤ p) × Refuses (judged a).verdict k (p - start))
+  pub refused-moved : (a : Answer Record) → Numbered a → (k p : ℕ) → Refuses (verdict_from start (after start a)) k p ↔ ((start ≤ p) × Refuses (judged a).verdict k (p - start))
   refused-moved a h k p = (to, from)
     where
-      to : Refuses (verdictFrom start (after start a)) k p → (start ≤ p) × Refuses (judged a).verdict k (p - start)
+      to : Refuses (verdict_from start (after start a)) k p → (start ≤ p) × Refuses (judged a).verdict k (p - start)
       to x = let y = moved-bad a k p (refused-read start (after start a) (numbered-moved a h) k p x) in (y.0, read-refused 0 a h k (p - start) y.1)
 
-      from : (start ≤ p) × Refuses (judged a).verdict k (p - start) → Refuses (verdictFrom start (after start a)) k p
+      from : (start ≤ p) × Refuses (judged a).verdict k (p - start) → Refuses (verdict_from start (after start a)) k p
       from x = read-refused start (after start a) (numbered-moved a h) k p (bad-moved a k p x.0 (refused-read 0 a h k (p - start) x.1))
 
 -- ---- By judge_whole
 
 module _ (size : ℕ) where
   -- where no byte follows a record it says what judge says, and else what is left over
-  pub whole-fits : (q : Record) (n : ℕ) → size ≤ n → judgedWhole size (ok q n) ≡ saying n q
-  unfolding judgedWhole
+  pub whole-fits : (q : Record) (n : ℕ) → size ≤ n → judged_whole size (ok q n) ≡ saying n q
+  unfolding judged_whole
   whole-fits q n h = rw (le-ltb n size h) (ok-judged q n)
 
-  pub whole-left : (q : Record) (n : ℕ) → n < size → judgedWhole size (ok q n) ≡ unjudged (verdict.Refused (LeftOver n))
-  unfolding judgedWhole
+  pub whole-left : (q : Record) (n : ℕ) → n < size → judged_whole size (ok q n) ≡ unjudged (verdict.Refused (LeftOver n))
+  unfolding judged_whole
   whole-left q n h = rw (lt-ltb n size h)
 
   -- what judge refuses it refuses
-  pub whole-refused : (a : Answer Record) (refusal : Refusal) → (judged a).verdict ≡ verdict.Refused refusal → judgedWhole size a ≡ judged a
-  unfolding judgedWhole verdictFrom
+  pub whole-refused : (a : Answer Record) (refusal : Refusal) → (judged a).verdict ≡ verdict.Refused refusal → judged_whole size a ≡ judged a
+  unfolding judged_whole verdict_from
   whole-refused (ok q n) refusal e = impossible (cc)
   whole-refused short refusal e = refl
   whole-refused (bad k p) refusal e = refl
 
   -- it says a record where reading took one that no byte follows
-  pub whole-read : (a : Answer Record) (n : ℕ) → Accepts (judgedWhole size a).verdict n → (q : Record) × (a ≡ ok q n) × (size ≤ n)
-  unfolding judgedWhole verdictFrom
+  pub whole-read : (a : Answer Record) (n : ℕ) → Accepts (judged_whole size a).verdict n → (q : Record) × (a ≡ ok q n) × (size ≤ n)
+  unfolding judged_whole verdict_from
   whole-read (ok q m) n x = go (ltb m size) refl x.accepted
     where
       go : (t : Bool) → ltb m size ≡ t → (cond t (unjudged (verdict.Refused (LeftOver m))) (judged (ok q m))).verdict ≡ verdict.Record n x.count x.extended
@@ -199,8 +199,8 @@ module _ (size : ℕ) where
   whole-read (bad k p) n x = impossible (cc x.accepted)
 
   -- and bytes left over where reading took one that some byte follows
-  pub left-read : (a : Answer Record) → Numbered a → (p : ℕ) → (judgedWhole size a).verdict ≡ verdict.Refused (LeftOver p) → (q : Record) × (a ≡ ok q p) × (p < size)
-  unfolding judgedWhole verdictFrom refusalOf
+  pub left-read : (a : Answer Record) → Numbered a → (p : ℕ) → (judged_whole size a).verdict ≡ verdict.Refused (LeftOver p) → (q : Record) × (a ≡ ok q p) × (p < size)
+  unfolding judged_whole verdict_from refusal_of
   left-read (ok q m) h p e = go (ltb m size) refl e
     where
       go : (t : Bool) → ltb m size ≡ t → (cond t (unjudged (verdict.Refused (LeftOver m))) (judged (ok q m))).verdict ≡ verdict.Refused (LeftOver p) → (v : Record) × (ok q m ≡ ok v p) × (p < size)
@@ -212,8 +212,8 @@ module _ (size : ℕ) where
       absurd (omega (arith, bounds.1, (bad-refusal k i bounds.0 (omega (arith, bounds.1))).0, ap number_of (same-refusal e)))
 
   -- it says what judge may say, or bytes left over
-  pub whole-said : (a : Answer Record) → Numbered a → Sayable (judgedWhole size a).verdict ⊎ ((p : ℕ) × ((judgedWhole size a).verdict ≡ verdict.Refused (LeftOver p)))
-  unfolding judgedWhole
+  pub whole-said : (a : Answer Record) → Numbered a → Sayable (judged_whole size a).verdict ⊎ ((p : ℕ) × ((judged_whole size a).verdict ≡ verdict.Refused (LeftOver p)))
+  unfolding judged_whole
   whole-said (ok q m) h = go (ltb m size)
     where
       go : (t : Bool) → Sayable (cond t (unjudged (verdict.Refused (LeftOver m))) (judged (ok q m))).verdict

@@ -16,9 +16,9 @@ use Rattle.refusals.specs.declared.Refusal.TheVariants.{NoPoint}
 use Rattle.channels.specs.declared.Place.{Place}
 use Rattle.point_places.specs.Places.{places_of, nowhere}
 use Rattle.channels.specs.Descriptors.{included, stored}
-use Rattle.records.specs.Record.{fullRecord, encode, IsRecord, extendedBytes}
-use Rattle.record_points.specs.Pointing.{pointedAt, placesIn}
-use Rattle.record_parts.specs.Parts.{extendedPlace, extendedSize, restPlace, restSize}
+use Rattle.records.specs.Record.{full_record, encode, IsRecord, extended_bytes}
+use Rattle.record_points.specs.Pointing.{pointed_at, places_in}
+use Rattle.record_parts.specs.Parts.{extended_place, extended_size, rest_place, rest_size}
 use Rattle.record_reading.specs.declared.Judged.{Judged}
 use Rattle.record_reading.specs.declared.Verdict.TheVariants as verdict
 use Rattle.record_points.specs.declared.Pointed.{Pointed}
@@ -29,16 +29,16 @@ use Rattle.demands.specs.ReadingLaws.{record-ends-in, last-part, NothingIn, noth
 
 -- the first n bytes of what is lent are a record
 module _ (s : Bor (List ℕ)) (n : ℕ) (within : n ≤ length s.now) (x : IsRecord (take n s.now)) where
-  read : run fullRecord s.now ≡ ok x.value n
+  read : run full_record s.now ≡ ok x.value n
   read = record-is-read s.now n within x
 
   -- ---- The parts
 
   -- extended hands out the extended data, and no byte where the record has none
-  pub extended-told : (r : Bor (List ℕ)) → promises.extended s r → r.now ≡ extendedBytes x.value.extended
-  unfolding extendedPlace extendedSize
+  pub extended-told : (r : Bor (List ℕ)) → promises.extended s r → r.now ≡ extended_bytes x.value.extended
+  unfolding extended_place extended_size
   extended-told r part =
-      let last = extendedBytes x.value.extended in
+      let last = extended_bytes x.value.extended in
       let size : length (encode x.value) ≡ n = sym (ap length x.written) ∙ length-take-le n s.now within in
       let split : encode x.value ++ drop n s.now ≡ s.now = rw x.written at (take-append-drop n s.now) in
       rw (read, ← size) at part.bytes
@@ -47,54 +47,54 @@ module _ (s : Bor (List ℕ)) (n : ℕ) (within : n ≤ length s.now) (x : IsRec
 
   -- that is the empty part at the record's end
   pub no-extended-told : x.value.extended ≡ none → (r : Bor (List ℕ)) → promises.extended s r → Part s r n 0
-  unfolding extendedPlace extendedSize extendedBytes
+  unfolding extended_place extended_size extended_bytes
   no-extended-told e r part = rw (read, e, sub-zero n) at part
 
   -- rest hands out the bytes behind the record
   pub rest-told : (r : Bor (List ℕ)) → promises.rest s r → r.now ≡ drop n s.now
-  unfolding restPlace restSize
+  unfolding rest_place rest_size
   rest-told r part = rw read at part.bytes ∙ take_all (length s.now - n) (drop n s.now) (rw (length-drop n s.now) (omega arith))
 
   -- ---- One point
 
   module _ (index : ℕ) (inside : index < length x.value.points) where
     -- judge_point says that there is a point of each index below the count
-    pub point-said : (r : Pointed) → promises.judgePoint s.now index r → r ≡ pointed.Point
-    unfolding pointedAt
+    pub point-said : (r : Pointed) → promises.judge_point s.now index r → r ≡ pointed.Point
+    unfolding pointed_at
     point-said r answers = answers ∙ rw (read, lt-ltb index (length x.value.points) inside)
 
     -- and point hands out its numbers in sixteen places
     pub point-told : (r : List Place) → promises.point s.now index r
         → r ≡ places_of (included x.value.description) (stored x.value.description) (get_or x.value.points index [])
-    unfolding placesIn
+    unfolding places_in
     point-told r answers = answers ∙ rw (read, lt-ltb index (length x.value.points) inside)
 
   module _ (index : ℕ) (outside : length x.value.points ≤ index) where
     -- judge_point says 10 of every other index
-    pub no-point-said : (r : Pointed) → promises.judgePoint s.now index r → r ≡ pointed.Refused NoPoint
-    unfolding pointedAt
+    pub no-point-said : (r : Pointed) → promises.judge_point s.now index r → r ≡ pointed.Refused NoPoint
+    unfolding pointed_at
     no-point-said r answers = answers ∙ rw (read, le-ltb index (length x.value.points) outside)
 
     -- and point hands out sixteen absent places
     pub no-point-told : (r : List Place) → promises.point s.now index r → r ≡ nowhere
-    unfolding placesIn
+    unfolding places_in
     no-point-told r answers = answers ∙ rw (read, le-ltb index (length x.value.points) outside)
 
 -- judge refuses what is lent: nothing is handed out
 module _ (s : Bor (List ℕ)) (q : Judged) (judges : promises.judge s.now q) (refusal : Refusal) (refused : q.verdict ≡ verdict.Refused refusal) where
-  nothing : NothingIn (run fullRecord s.now) refusal
-  nothing = nothing-in (run fullRecord s.now) refusal (rw judges at refused)
+  nothing : NothingIn (run full_record s.now) refusal
+  nothing = nothing-in (run full_record s.now) refusal (rw judges at refused)
 
   -- extended and rest hand out the empty part at the start
   pub refused-extended : (r : Bor (List ℕ)) → promises.extended s r → Part s r 0 0
-  refused-extended r part = rw (nothing.extendedAt, nothing.extendedMany) at part
+  refused-extended r part = rw (nothing.extended_at, nothing.extended_many) at part
 
   pub refused-rest : (r : Bor (List ℕ)) → promises.rest s r → Part s r 0 0
-  refused-rest r part = rw (nothing.rest_at, nothing.restMany (length s.now)) at part
+  refused-rest r part = rw (nothing.rest_at, nothing.rest_many (length s.now)) at part
 
   -- judge_point refuses alike, and point hands out sixteen absent places
-  pub refused-point-said : (index : ℕ) (r : Pointed) → promises.judgePoint s.now index r → r ≡ pointed.Refused refusal
-  refused-point-said index r answers = answers ∙ nothing.saidOfPoints index
+  pub refused-point-said : (index : ℕ) (r : Pointed) → promises.judge_point s.now index r → r ≡ pointed.Refused refusal
+  refused-point-said index r answers = answers ∙ nothing.said_of_points index
 
   pub refused-point-told : (index : ℕ) (r : List Place) → promises.point s.now index r → r ≡ nowhere
-  refused-point-told index r answers = answers ∙ nothing.placesOfPoints index
+  refused-point-told index r answers = answers ∙ nothing.places_of_points index

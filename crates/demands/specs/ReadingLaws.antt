@@ -10,19 +10,19 @@ use Rattle.formats.specs.Number.{digits}
 use Rattle.formats.specs.Writes.{All}
 use Rattle.refusals.specs.declared.Refusal.{Refusal}
 use Rattle.channels.specs.declared.Place.{Place}
-use Rattle.points.specs.Points.{storedFrom, channels, encodePoint}
+use Rattle.points.specs.Points.{stored_from, channels, encode_point}
 use Rattle.point_places.specs.Places.{unstored, places_of, nowhere}
 use Rattle.orders.specs.Orders.{size, step, stride, points_of}
 use Rattle.orders.specs.OrderLaws.{points-many, number_is, size-at}
 use Rattle.orders.specs.declared.Order.TheVariants.{Point}
 use Rattle.channels.specs.Descriptors.{stored}
-use Rattle.records.specs.Record.{Record, header, openingByte, encodeExtended, encode, extendedBytes}
-use Rattle.record_reading.specs.Verdict.{verdictFrom, judged}
-use Rattle.record_points.specs.Pointing.{pointedAt, placesIn}
-use Rattle.record_parts.specs.Parts.{extendedPlace, extendedSize, restPlace, restSize}
+use Rattle.records.specs.Record.{Record, header, opening_byte, encode_extended, encode, extended_bytes}
+use Rattle.record_reading.specs.Verdict.{verdict_from, judged}
+use Rattle.record_points.specs.Pointing.{pointed_at, places_in}
+use Rattle.record_parts.specs.Parts.{extended_place, extended_size, rest_place, rest_size}
 use Rattle.record_reading.specs.declared.Verdict.TheVariants as verdict
 use Rattle.record_points.specs.declared.Pointed.TheVariants as pointed
-use Rattle.demands.specs.Saying.{numbersIn, numbersOf}
+use Rattle.demands.specs.Saying.{numbers_in, numbers_of}
 
 -- ---- The extended data are a record's last bytes
 
@@ -31,16 +31,16 @@ pub record EndsIn (b last : List ℕ) : Type 0 where
   pub first : List ℕ
   pub together : b ≡ first ++ last
 
-ends-in : (a : List ℕ) (e : Option (List ℕ)) → EndsIn (a ++ encodeExtended e) (extendedBytes e)
-unfolding encodeExtended extendedBytes
+ends-in : (a : List ℕ) (e : Option (List ℕ)) → EndsIn (a ++ encode_extended e) (extended_bytes e)
+unfolding encode_extended extended_bytes
 ends-in a none = record { first = a; together = refl }
 ends-in a (some bytes) = record { first = a ++ digits 2 (length bytes); together = sym (append_assoc a (digits 2 (length bytes)) bytes) }
 
-pub record-ends-in : (r : Record) → EndsIn (encode r) (extendedBytes r.extended)
+pub record-ends-in : (r : Record) → EndsIn (encode r) (extended_bytes r.extended)
 unfolding encode
 record-ends-in r =
     ends-in
-    (header r.description ++ (openingByte r.extended ∷ []) ++ digits 3 (length r.points) ++ flat_map (encodePoint 2 (stored r.description)) r.points)
+    (header r.description ++ (opening_byte r.extended ∷ []) ++ digits 3 (length r.points) ++ flat_map (encode_point 2 (stored r.description)) r.points)
     r.extended
 
 -- so they are the part of their size before the end
@@ -67,26 +67,26 @@ numbers-at count k values amount sizes i h =
     number_is Point count k values i r h below ∙ ap (λ j. get_or values j (pos 0)) z ∙ sym (get_or-take k (drop (i * k) values) r (pos 0) below ∙ get_or-drop (i * k) values r (pos 0)))
 
 -- those of the places that a point is set out in are its own
-unset : (included : Bool) (l : List Place) → numbersIn (unstored included ∷ l) ≡ numbersIn l
-unfolding numbersIn
+unset : (included : Bool) (l : List Place) → numbers_in (unstored included ∷ l) ≡ numbers_in l
+unfolding numbers_in
 unset true l = refl
 unset false l = refl
 
-pub numbers-in-from : (included stored : List Bool) (i : ℕ) (vs : List ℤ) → length vs ≡ length (storedFrom i stored) → numbersIn (places_of included stored vs) ≡ vs
-unfolding numbersIn places_of storedFrom
+pub numbers-in-from : (included stored : List Bool) (i : ℕ) (vs : List ℤ) → length vs ≡ length (stored_from i stored) → numbers_in (places_of included stored vs) ≡ vs
+unfolding numbers_in places_of stored_from
 numbers-in-from included [] i [] h = refl
 numbers-in-from included [] i (v ∷ vs) h = absurd (omega (arith, h))
 numbers-in-from included (true ∷ stored) i [] h = absurd (omega (arith, h))
 numbers-in-from included (true ∷ stored) i (v ∷ vs) h = ap (λ l. v ∷ l) (numbers-in-from (drop 1 included) stored (suc i) vs (omega (arith, h)))
 numbers-in-from included (false ∷ stored) i vs h = unset (get_or included 0 false) (places_of (drop 1 included) stored vs) ∙ numbers-in-from (drop 1 included) stored (suc i) vs h
 
-pub numbers-in : (included stored : List Bool) (vs : List ℤ) → length vs ≡ size stored → numbersIn (places_of included stored vs) ≡ vs
+pub numbers-in : (included stored : List Bool) (vs : List ℤ) → length vs ≡ size stored → numbers_in (places_of included stored vs) ≡ vs
 unfolding channels
 numbers-in included stored vs h = numbers-in-from included stored 0 vs h
 
 -- and those of all points in their order are the points in one row
-pub numbers-of-from : (points : ℕ → List Place) (l : List (List ℤ)) (from : ℕ) → ((i : ℕ) → i < length l → numbersIn (points (from + i)) ≡ get_or l i []) → numbersOf points (length l) from ≡ flatten l
-unfolding numbersOf flatten
+pub numbers-of-from : (points : ℕ → List Place) (l : List (List ℤ)) (from : ℕ) → ((i : ℕ) → i < length l → numbers_in (points (from + i)) ≡ get_or l i []) → numbers_of points (length l) from ≡ flatten l
+unfolding numbers_of flatten
 numbers-of-from points [] from h = refl
 numbers-of-from points (p ∷ l) from h =
     let z : from + 0 ≡ from = omega arith in
@@ -96,18 +96,18 @@ numbers-of-from points (p ∷ l) from h =
 
 -- nothing is handed out, and every point is refused alike
 pub record NothingIn (a : Answer Record) (refusal : Refusal) : Type 0 where
-  pub extendedAt : extendedPlace a ≡ 0
-  pub extendedMany : extendedSize a ≡ 0
-  pub rest_at : restPlace a ≡ 0
-  pub restMany : (many : ℕ) → restSize many a ≡ 0
-  pub saidOfPoints : (index : ℕ) → pointedAt index a ≡ pointed.Refused refusal
-  pub placesOfPoints : (index : ℕ) → placesIn index a ≡ nowhere
+  pub extended_at : extended_place a ≡ 0
+  pub extended_many : extended_size a ≡ 0
+  pub rest_at : rest_place a ≡ 0
+  pub rest_many : (many : ℕ) → rest_size many a ≡ 0
+  pub said_of_points : (index : ℕ) → pointed_at index a ≡ pointed.Refused refusal
+  pub places_of_points : (index : ℕ) → places_in index a ≡ nowhere
 
 again : {x y : Refusal} → verdict.Refused x ≡ verdict.Refused y → pointed.Refused x ≡ pointed.Refused y
 again e = cc
 
 pub nothing-in : (a : Answer Record) (refusal : Refusal) → (judged a).verdict ≡ verdict.Refused refusal → NothingIn a refusal
-unfolding verdictFrom extendedPlace extendedSize restPlace restSize pointedAt placesIn
+unfolding verdict_from extended_place extended_size rest_place rest_size pointed_at places_in
 nothing-in (ok v n) refusal e = impossible (cc)
-nothing-in short refusal e = record { extendedAt = refl; extendedMany = refl; rest_at = refl; restMany = λ many. refl; saidOfPoints = λ index. again e; placesOfPoints = λ index. refl }
-nothing-in (bad k p) refusal e = record { extendedAt = refl; extendedMany = refl; rest_at = refl; restMany = λ many. refl; saidOfPoints = λ index. again e; placesOfPoints = λ index. refl }
+nothing-in short refusal e = record { extended_at = refl; extended_many = refl; rest_at = refl; rest_many = λ many. refl; said_of_points = λ index. again e; places_of_points = λ index. refl }
+nothing-in (bad k p) refusal e = record { extended_at = refl; extended_many = refl; rest_at = refl; rest_many = λ many. refl; said_of_points = λ index. again e; places_of_points = λ index. refl }

@@ -13,18 +13,18 @@ use Rattle.orders.specs.Orders.{size}
 use Rattle.orders.specs.OrderLaws.{size-at}
 use Rattle.values.specs.ValueLaws.{valid-sizes}
 use Rattle.channels.specs.Descriptors.{included, stored}
-use Rattle.records.specs.Record.{Record, fullRecord, IsRecord, present, extendedBytes}
+use Rattle.records.specs.Record.{Record, full_record, IsRecord, present, extended_bytes}
 use Rattle.records.specs.Demands.{write-after-read}
 use Rattle.record_reading.specs.declared.Verdict.TheVariants as verdict
 use Rattle.record_reading.specs.declared.Judged.{Judged}
 use Rattle.demands.specs.Promises as promises
-use Rattle.demands.specs.Saying.{saying, numbersIn, numbersOf}
+use Rattle.demands.specs.Saying.{saying, numbers_in, numbers_of}
 use Rattle.demands.specs.JudgingLaws.{record-read, read-judged}
 use Rattle.demands.specs.Reading.{point-told}
 use Rattle.demands.specs.ReadingLaws.{numbers-in, numbers-of-from}
 
-pub extended-given : (wanted : Bool) (extended : List ℕ) → extendedBytes (cond wanted (some extended) none) ≡ cond wanted extended []
-unfolding extendedBytes
+pub extended-given : (wanted : Bool) (extended : List ℕ) → extended_bytes (cond wanted (some extended) none) ≡ cond wanted extended []
+unfolding extended_bytes
 extended-given true extended = refl
 extended-given false extended = refl
 
@@ -45,19 +45,19 @@ spoken a q n read r told count wanted said =
 pub record Meant (s : List ℕ) (r : Judged) (n count : ℕ) (wanted : Bool) : Type 0 where
   pub within : n ≤ length s
   pub bytes : IsRecord (take n s)
-  pub read : run fullRecord s ≡ ok bytes.value n
+  pub read : run full_record s ≡ ok bytes.value n
   pub described : r.description ≡ bytes.value.description
   pub counted : count ≡ length bytes.value.points
   pub presence : wanted ≡ present bytes.value.extended
 
 pub meant : (s : List ℕ) → Bytes s → (r : Judged) → promises.judge s r → (n count : ℕ) (wanted : Bool) → r.verdict ≡ verdict.Record n count wanted → Meant s r n count wanted
 meant s bytes r judges n count wanted said =
-    let a = run fullRecord s in
+    let a = run full_record s in
     let taken = record-read a n (record { count = count; extended = wanted; accepted = ap (λ x. x.verdict) (sym judges) ∙ said }) in
     let x = spoken a taken.0 n taken.1 r (judges ∙ read-judged a taken.0 n taken.1) count wanted said in
     let law = write-after-read s x.value n bytes x.read in
     record {
-      within = (whole fullRecord s x.read).within;
+      within = (whole full_record s x.read).within;
       bytes = record { value = x.value; valid = law.0; written = law.1 };
       read = x.read;
       described = x.described;
@@ -67,12 +67,12 @@ meant s bytes r judges n count wanted said =
 
 -- the numbers that point handed out, point by point, are those of the record's points
 pub in_a_row : (s : Bor (List ℕ)) (n : ℕ) → n ≤ length s.now → (x : IsRecord (take n s.now)) (points : ℕ → List Place)
-    → ((index : ℕ) → index < length x.value.points → promises.point s.now index (points index)) → numbersOf points (length x.value.points) 0 ≡ flatten x.value.points
+    → ((index : ℕ) → index < length x.value.points → promises.point s.now index (points index)) → numbers_of points (length x.value.points) 0 ≡ flatten x.value.points
 in_a_row s n within x points handed =
     let d = x.value.description in
     let sizes = valid-sizes 2 (stored d) x.value.points x.valid.points in
     numbers-of-from points x.value.points 0 (λ i h.
     let z : 0 + i ≡ i = omega arith in
-    ap (λ j. numbersIn (points j)) z
-    ∙ ap numbersIn (point-told s n within x i h (points i) (handed i h))
+    ap (λ j. numbers_in (points j)) z
+    ∙ ap numbers_in (point-told s n within x i h (points i) (handed i h))
     ∙ numbers-in (included d) (stored d) (get_or x.value.points i []) (size-at (size (stored d)) x.value.points sizes i h))

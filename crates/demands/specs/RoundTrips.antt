@@ -15,20 +15,20 @@ use Rattle.orders.specs.OrderLaws.{points-many}
 use Rattle.orders.specs.declared.Order.TheVariants.{Point}
 use Rattle.values.specs.ValueLaws.{fits-valid, valid-sizes}
 use Rattle.channels.specs.Descriptors.{included, stored}
-use Rattle.records.specs.Record.{Record, fullRecord, encode, IsRecord}
-use Rattle.record_reading.specs.Verdict.{judged, judgedWhole}
+use Rattle.records.specs.Record.{Record, full_record, encode, IsRecord}
+use Rattle.record_reading.specs.Verdict.{judged, judged_whole}
 use Rattle.record_reading.specs.declared.Verdict.TheVariants as verdict
 use Rattle.record_reading.specs.declared.Judged.{Judged}
 use Rattle.record_points.specs.declared.Pointed.{Pointed}
 use Rattle.record_points.specs.declared.Pointed.TheVariants as pointed
-use Rattle.record_writing.specs.Write.{recordIn, writeOf}
+use Rattle.record_writing.specs.Write.{record_in, write_of}
 use Rattle.record_writing.specs.WriteLaws.{passes-valid}
 use Rattle.record_writing.specs.RoundTrips as trips
 use Rattle.record_writing.specs.RoundTrips.{Wrote}
 use Rattle.record_writing.specs.declared.Written.{Written}
 use Rattle.record_writing.specs.declared.Written.TheVariants as written
 use Rattle.demands.specs.Promises as promises
-use Rattle.demands.specs.Saying.{numbersOf}
+use Rattle.demands.specs.Saying.{numbers_of}
 use Rattle.demands.specs.JudgingLaws.{read-judged, whole-fits}
 use Rattle.demands.specs.Reading.{extended-told, rest-told, point-said, point-told, no-point-said, no-point-told}
 use Rattle.demands.specs.ReadingLaws.{numbers-at}
@@ -40,7 +40,7 @@ use Rattle.demands.specs.RoundTripLaws.{extended-given, meant, in_a_row}
 module _ (d : Description) (sixteen : length d.channels ≡ 16) (count : ℕ) (values : List ℤ) (wanted : Bool) (extended : List ℕ) (lent : Bytes extended) (out : List ℕ)
     (n : ℕ) (s : Bor (List ℕ)) (wrote : promises.write d count values wanted extended out (written.Record n) s.now) where
   abbrev asked : Record
-  asked = recordIn Point d count values wanted extended
+  asked = record_in Point d count values wanted extended
 
   told : Wrote Point d count values wanted extended out n s.now
   told = trips.wrote Point d count values wanted extended out (sym wrote)
@@ -64,29 +64,29 @@ module _ (d : Description) (sixteen : length d.channels ≡ 16) (count : ℕ) (v
   written-judged r answers = answers ∙ trips.written-judged Point d count values wanted extended out sixteen lent (sym wrote)
 
   -- and so does judge_whole, of the record alone
-  pub written-judged-whole : (r : Judged) → promises.judgeWhole (take n s.now) r → r ≡ record { verdict = verdict.Record n count wanted; description = d }
+  pub written-judged-whole : (r : Judged) → promises.judge_whole (take n s.now) r → r ≡ record { verdict = verdict.Record n count wanted; description = d }
   written-judged-whole r answers =
       let read = trips.written_read Point d count values wanted extended out sixteen lent (sym wrote) in
       let size : length (take n s.now) ≡ n = length-take-le n s.now within in
-      let alone : run fullRecord (take n s.now) ≡ ok asked n = reads-take fullRecord s.now read ∙ ap (ok asked) size in
+      let alone : run full_record (take n s.now) ≡ ok asked n = reads-take full_record s.now read ∙ ap (ok asked) size in
       answers
-      ∙ ap (judgedWhole (length (take n s.now))) alone
+      ∙ ap (judged_whole (length (take n s.now))) alone
       ∙ whole-fits (length (take n s.now)) asked n (omega (arith, size))
-      ∙ sym (read-judged (run fullRecord s.now) asked n read)
-      ∙ written-judged (judged (run fullRecord s.now)) refl
+      ∙ sym (read-judged (run full_record s.now) asked n read)
+      ∙ written-judged (judged (run full_record s.now)) refl
 
   -- of each index below the count judge_point says that there is a point, and point hands out the numbers of it that were given, in their places
   module _ (index : ℕ) (inside : index < count) where
     amid : index < length asked.points
-    unfolding recordIn
+    unfolding record_in
     amid = rw (points-many Point count (size (stored d)) values) inside
 
-    pub written-point-said : (r : Pointed) → promises.judgePoint s.now index r → r ≡ pointed.Point
+    pub written-point-said : (r : Pointed) → promises.judge_point s.now index r → r ≡ pointed.Point
     written-point-said r answers = point-said s n within the-record index amid r answers
 
     pub written-point-told : (r : List Place) → promises.point s.now index r
         → r ≡ places_of (included d) (stored d) (take (size (stored d)) (drop (index * size (stored d)) values))
-    unfolding recordIn
+    unfolding record_in
     written-point-told r answers =
         let fit = fits-valid 2 (stored d) Point count values told.passes.numbered.fitting in
         point-told s n within the-record index amid r answers
@@ -95,10 +95,10 @@ module _ (d : Description) (sixteen : length d.channels ≡ 16) (count : ℕ) (v
   -- of every other index judge_point says 10, and point hands out sixteen absent places
   module _ (index : ℕ) (outside : count ≤ index) where
     behind : length asked.points ≤ index
-    unfolding recordIn
+    unfolding record_in
     behind = rw (points-many Point count (size (stored d)) values) outside
 
-    pub written-no-point-said : (r : Pointed) → promises.judgePoint s.now index r → r ≡ pointed.Refused NoPoint
+    pub written-no-point-said : (r : Pointed) → promises.judge_point s.now index r → r ≡ pointed.Refused NoPoint
     written-no-point-said r answers = no-point-said s n within the-record index behind r answers
 
     pub written-no-point-told : (r : List Place) → promises.point s.now index r → r ≡ nowhere
@@ -106,7 +106,7 @@ module _ (d : Description) (sixteen : length d.channels ≡ 16) (count : ℕ) (v
 
   -- extended hands out the extended data that were given where they were wanted, and no byte where they were not
   pub written-extended-told : (r : Bor (List ℕ)) → promises.extended s r → r.now ≡ cond wanted extended []
-  unfolding recordIn
+  unfolding record_in
   written-extended-told r part = extended-told s n within the-record r part ∙ extended-given wanted extended
 
   -- rest hands out what the output held behind the record
@@ -122,12 +122,12 @@ module _ (s : Bor (List ℕ)) (bytes : Bytes s.now)
     (extended : Bor (List ℕ)) (handed : promises.extended s extended) where
   -- write then answers the same length where there is room, and the output holds the bytes that were read, before what it held behind them
   pub read-written : (out : List ℕ) → n ≤ length out → (answer : Written) (after : List ℕ)
-      → promises.write r.description count (numbersOf points count 0) wanted extended.now out answer after
+      → promises.write r.description count (numbers_of points count 0) wanted extended.now out answer after
       → (answer ≡ written.Record n) × (after ≡ take n s.now ++ drop n out)
   unfolding values_of
   read-written out room answer after writes =
       let x = meant s.now bytes r judges n count wanted said in
-      let row = ap (λ k. numbersOf points k 0) x.counted ∙ in_a_row s n x.within x.bytes points (λ i h. pointed i (omega (arith, x.counted, h))) in
+      let row = ap (λ k. numbers_of points k 0) x.counted ∙ in_a_row s n x.within x.bytes points (λ i h. pointed i (omega (arith, x.counted, h))) in
       let part = extended-told s n x.within x.bytes extended handed in
-      let same = writes ∙ (λ i. writeOf (x.described i) (x.counted i) (row i) (x.presence i) (part i) out) ∙ trips.read-written Point s.now bytes x.bytes.value n x.read out room in
+      let same = writes ∙ (λ i. write_of (x.described i) (x.counted i) (row i) (x.presence i) (part i) out) ∙ trips.read-written Point s.now bytes x.bytes.value n x.read out room in
       (ap (λ w. w.answer) same, ap (λ w. w.bytes) same)

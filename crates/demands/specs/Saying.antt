@@ -30,20 +30,20 @@ pub record Refuses (v : Verdict) (number place : ℕ) : Type 0 where
 
 -- what judge may say: a record, or short, or a refusal that has a number from 2 to 8 and names a place
 pub data Sayable (v : Verdict) : Type 0 where
-  aRecord : (n : ℕ) → Accepts v n → Sayable v
-  tooShort : v ≡ verdict.Refused Short → Sayable v
-  refusedAt : (number place : ℕ) → 2 ≤ number → number ≤ 8 → Refuses v number place → Sayable v
+  a_record : (n : ℕ) → Accepts v n → Sayable v
+  too_short : v ≡ verdict.Refused Short → Sayable v
+  refused_at : (number place : ℕ) → 2 ≤ number → number ≤ 8 → Refuses v number place → Sayable v
 
 -- ---- The numbers of points that were handed out
 
 -- the numbers among some places, in order
-unfoldable pub numbersIn : List Place → List ℤ
-numbersIn [] = []
-numbersIn (Absent ∷ places) = numbersIn places
-numbersIn (Constant ∷ places) = numbersIn places
-numbersIn (Number v ∷ places) = v ∷ numbersIn places
+unfoldable pub numbers_in : List Place → List ℤ
+numbers_in [] = []
+numbers_in (Absent ∷ places) = numbers_in places
+numbers_in (Constant ∷ places) = numbers_in places
+numbers_in (Number v ∷ places) = v ∷ numbers_in places
 
 -- those of `count` points, from an index on, point by point
-unfoldable pub numbersOf : (points : ℕ → List Place) (count from : ℕ) → List ℤ
-numbersOf points zero from = []
-numbersOf points (suc count) from = numbersIn (points from) ++ numbersOf points count (from + 1)
+unfoldable pub numbers_of : (points : ℕ → List Place) (count from : ℕ) → List ℤ
+numbers_of points zero from = []
+numbers_of points (suc count) from = numbers_in (points from) ++ numbers_of points count (from + 1)

@@ -8,10 +8,10 @@ use Rattle.formats.specs.Number.{number}
 use Rattle.formats.specs.Writes.{writes-literal}
 use Rattle.channels.specs.Channel.{signed_of}
 use Rattle.channels.specs.Stored.{offset, value_of}
-use Rattle.descriptions.specs.Description.{attribute, descriptor, includes, channelOf, description}
-use Rattle.points.specs.Points.{storedFrom, channels, sample, point}
-use Rattle.records.specs.Record.{extension, fullRecord, IsRecord, present}
-use Rattle.record_reading.specs.Verdict.{verdictFrom, judgedWhole}
+use Rattle.descriptions.specs.Description.{attribute, descriptor, includes, channel_of, description}
+use Rattle.points.specs.Points.{stored_from, channels, sample, point}
+use Rattle.records.specs.Record.{extension, full_record, IsRecord, present}
+use Rattle.record_reading.specs.Verdict.{verdict_from, judged_whole}
 use Rattle.demands.specs.Judging.{whole-exactly}
 
 -- X and Y, and no other channel; no descriptor but 00 00 of each, no points, and no extended data
@@ -23,6 +23,6 @@ m-bytes = (writes-literal 2 M tt).bytes tt tt
 
 -- M is a record, since judge_whole says so
 pub m-is-record : IsRecord M
-unfolding run next bind reader.map each times one free literal number value_of offset signed_of attribute descriptor includes channelOf description
-    storedFrom channels sample point extension fullRecord numbers.value present verdictFrom judgedWhole
-m-is-record = (whole-exactly M m-bytes (judgedWhole (length M) (run fullRecord M)) refl).0 (17, record { count = 0; extended = false; accepted = refl })
+unfolding run next bind reader.map each times one free literal number value_of offset signed_of attribute descriptor includes channel_of description
+    stored_from channels sample point extension full_record numbers.value present verdict_from judged_whole
+m-is-record = (whole-exactly M m-bytes (judged_whole (length M) (run full_record M)) refl).0 (17, record { count = 0; extended = false; accepted = refl })

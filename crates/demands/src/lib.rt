@@ -15,19 +15,19 @@ fn judge(bytes: &[u8]) -> Judged
 }
 
 fn verdict_at(bytes: &[u8], start: usize) -> Verdict
-    ensures { promises.verdictAt bytes.now start result }
+    ensures { promises.verdict_at bytes.now start result }
 {
     record_reading::verdict_at(bytes, start)
 }
 
 fn judge_whole(bytes: &[u8]) -> Judged
-    ensures { promises.judgeWhole bytes.now result }
+    ensures { promises.judge_whole bytes.now result }
 {
     record_reading::judge_whole(bytes)
 }
 
 fn judge_point(bytes: &[u8], index: usize) -> Pointed
-    ensures { promises.judgePoint bytes.now index result }
+    ensures { promises.judge_point bytes.now index result }
 {
     record_points::judge_point(bytes, index)
 }
@@ -71,7 +71,7 @@ fn write_columns(
     extended: &[u8],
     out: &mut [u8],
 ) -> Written
-    ensures { promises.writeColumns description count values.now wanted extended.now out.old result out.new }
+    ensures { promises.write_columns description count values.now wanted extended.now out.old result out.new }
 {
     record_writing::write_columns(description, count, values, wanted, extended, out)
 }

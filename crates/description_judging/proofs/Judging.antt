@@ -16,7 +16,7 @@ use mir.Syntax.{w32}
 use mir.Val.{SFits, to_z, of_z}
 use mir.ValLaws.{to_z_pos}
 use Rattle.refusals.specs.Stages.{or_else}
-use Rattle.refusals.specs.Ranges.{firstMisfit}
+use Rattle.refusals.specs.Ranges.{first_misfit}
 use Rattle.refusals.specs.RangeLaws.{joined}
 use Rattle.refusals.specs.declared.Judgement.TheVariants.{Passed}
 use Rattle.channels.specs.Channel.{signed_of}
@@ -24,8 +24,8 @@ use Rattle.channels.specs.Stored.{offset, value_of, fits, between}
 use Rattle.channels.specs.declared.Attribute.{Attribute}
 use Rattle.channels.specs.declared.Descriptor.{Descriptor}
 use Rattle.channels.specs.Descriptors.{absent}
-use Rattle.descriptions.specs.Description.{flagless, tidyAttribute, tidyDescriptor, fitsAttribute, fitsDescriptor, every}
-use Rattle.description_judging.specs.Judging.{numbersOf, numbersFrom}
+use Rattle.descriptions.specs.Description.{flagless, tidy_attribute, tidy_descriptor, fits_attribute, fits_descriptor, every}
+use Rattle.description_judging.specs.Judging.{numbers_of, numbers_from}
 use Rattle.description_judging.specs.JudgingLaws.{both, all-five}
 
 -- the bits of a number are zero where the number is
@@ -44,8 +44,8 @@ only_zero (negsuc n) = rw (ne_eqb (suc n) 0 (λ e. omega arith))
 -- an attribute is tidy and fits where its number is between two: the least and the most, or 0 and 0 where it is not given
 module _ (a : Attribute) (w : ℕ) (signed : Bool) where
   pub sound-attribute : {first last : ℤ} → first ≡ cond a.given (value_of w signed 0) (pos 0) → last ≡ cond a.given (value_of w signed (256 ^ w - 1)) (pos 0)
-      → (le_z first a.number && le_z a.number last) ≡ (tidyAttribute a && fitsAttribute w signed a)
-  unfolding tidyAttribute fitsAttribute
+      → (le_z first a.number && le_z a.number last) ≡ (tidy_attribute a && fits_attribute w signed a)
+  unfolding tidy_attribute fits_attribute
   sound-attribute p q = rw (p, q) (go a.given)
     where
       go : (t : Bool)
@@ -87,39 +87,39 @@ last-first false p true = refl
 last-first false p false = refl
 
 -- what is asked of a descriptor, up to each attribute
-abbrev pub toScaling : Descriptor → Bool
-toScaling d = tidyAttribute d.scaling && fitsAttribute 2 false d.scaling
+abbrev pub to_scaling : Descriptor → Bool
+to_scaling d = tidy_attribute d.scaling && fits_attribute 2 false d.scaling
 
 module _ (w channel : ℕ) (d : Descriptor) where
-  abbrev pub toMinimum : Bool
-  toMinimum = toScaling d && (tidyAttribute d.minimum && fitsAttribute w (signed_of channel) d.minimum)
+  abbrev pub to_minimum : Bool
+  to_minimum = to_scaling d && (tidy_attribute d.minimum && fits_attribute w (signed_of channel) d.minimum)
 
-  abbrev pub toMaximum : Bool
-  toMaximum = toMinimum && (tidyAttribute d.maximum && fitsAttribute w (signed_of channel) d.maximum)
+  abbrev pub to_maximum : Bool
+  to_maximum = to_minimum && (tidy_attribute d.maximum && fits_attribute w (signed_of channel) d.maximum)
 
-  abbrev pub toMean : Bool
-  toMean = toMaximum && (tidyAttribute d.mean && fitsAttribute w (signed_of channel) d.mean)
+  abbrev pub to_mean : Bool
+  to_mean = to_maximum && (tidy_attribute d.mean && fits_attribute w (signed_of channel) d.mean)
 
-  abbrev pub toDeviation : Bool
-  toDeviation = toMean && (tidyAttribute d.deviation && fitsAttribute w false d.deviation)
+  abbrev pub to_deviation : Bool
+  to_deviation = to_mean && (tidy_attribute d.deviation && fits_attribute w false d.deviation)
 
-  pub all_asked : (toDeviation && (d.included || flagless d)) ≡ (tidyDescriptor d && fitsDescriptor w channel d)
-  unfolding tidyDescriptor fitsDescriptor
+  pub all_asked : (to_deviation && (d.included || flagless d)) ≡ (tidy_descriptor d && fits_descriptor w channel d)
+  unfolding tidy_descriptor fits_descriptor
   all_asked =
       ap
       (λ t. t && (d.included || flagless d))
       (five-pairs
       true
-      (tidyAttribute d.scaling)
-      (fitsAttribute 2 false d.scaling)
-      (tidyAttribute d.minimum)
-      (fitsAttribute w (signed_of channel) d.minimum)
-      (tidyAttribute d.maximum)
-      (fitsAttribute w (signed_of channel) d.maximum)
-      (tidyAttribute d.mean)
-      (fitsAttribute w (signed_of channel) d.mean)
-      (tidyAttribute d.deviation)
-      (fitsAttribute w false d.deviation))
+      (tidy_attribute d.scaling)
+      (fits_attribute 2 false d.scaling)
+      (tidy_attribute d.minimum)
+      (fits_attribute w (signed_of channel) d.minimum)
+      (tidy_attribute d.maximum)
+      (fits_attribute w (signed_of channel) d.maximum)
+      (tidy_attribute d.mean)
+      (fits_attribute w (signed_of channel) d.mean)
+      (tidy_attribute d.deviation)
+      (fits_attribute w false d.deviation))
       ∙ last-first _ _ (d.included || flagless d)
 
 -- ---- One check, of what is tidy
@@ -130,22 +130,22 @@ second {this} e h = e ∙ ap (λ b. b && this) h
 
 -- each attribute of a tidy descriptor is tidy
 pub record TidyAttributes (d : Descriptor) : Type 0 where
-  pub scaling : tidyAttribute d.scaling ≡ true
-  pub minimum : tidyAttribute d.minimum ≡ true
-  pub maximum : tidyAttribute d.maximum ≡ true
-  pub mean : tidyAttribute d.mean ≡ true
-  pub deviation : tidyAttribute d.deviation ≡ true
+  pub scaling : tidy_attribute d.scaling ≡ true
+  pub minimum : tidy_attribute d.minimum ≡ true
+  pub maximum : tidy_attribute d.maximum ≡ true
+  pub mean : tidy_attribute d.mean ≡ true
+  pub deviation : tidy_attribute d.deviation ≡ true
 
-pub tidy-attributes : (d : Descriptor) → T (tidyDescriptor d) → TidyAttributes d
-unfolding tidyDescriptor
+pub tidy-attributes : (d : Descriptor) → T (tidy_descriptor d) → TidyAttributes d
+unfolding tidy_descriptor
 tidy-attributes d h =
     let x =
     all-five
-    (tidyAttribute d.scaling)
-    (tidyAttribute d.minimum)
-    (tidyAttribute d.maximum)
-    (tidyAttribute d.mean)
-    (tidyAttribute d.deviation)
+    (tidy_attribute d.scaling)
+    (tidy_attribute d.minimum)
+    (tidy_attribute d.maximum)
+    (tidy_attribute d.mean)
+    (tidy_attribute d.deviation)
     (both (d.included || flagless d) _ (is_true _ h)).1 in
     record { scaling = x.0; minimum = x.1.0; maximum = x.1.1.0; mean = x.1.1.1.0; deviation = x.1.1.1.1.0 }
 
@@ -190,10 +190,10 @@ module _ (test : ℕ → Descriptor → Bool) (ds : List Descriptor) where
 module _ (w : ℕ) (ds : List Descriptor) where
   -- those of this channel, and of the channels behind it
   pub numbers-next : (i : ℕ) → i < length ds
-      → firstMisfit (numbersFrom w i (drop i ds)) ≡ or_else (firstMisfit (numbersOf w i (get_or ds i absent))) (firstMisfit (numbersFrom w (i + 1) (drop (i + 1) ds)))
-  unfolding numbersFrom
-  numbers-next i h = rw (add-one i, drop-cons ds i absent h) (joined (numbersOf w i (get_or ds i absent)) (numbersFrom w (suc i) (drop (suc i) ds)))
+      → first_misfit (numbers_from w i (drop i ds)) ≡ or_else (first_misfit (numbers_of w i (get_or ds i absent))) (first_misfit (numbers_from w (i + 1) (drop (i + 1) ds)))
+  unfolding numbers_from
+  numbers-next i h = rw (add-one i, drop-cons ds i absent h) (joined (numbers_of w i (get_or ds i absent)) (numbers_from w (suc i) (drop (suc i) ds)))
 
-  pub numbers-none : (i : ℕ) → length ds ≤ i → firstMisfit (numbersFrom w i (drop i ds)) ≡ Passed
-  unfolding numbersFrom firstMisfit
+  pub numbers-none : (i : ℕ) → length ds ≤ i → first_misfit (numbers_from w i (drop i ds)) ≡ Passed
+  unfolding numbers_from first_misfit
   numbers-none i h = rw (drop_of_length-le ds {i = i} h)

@@ -7,16 +7,16 @@ use mathlib.Core.List.{List, [], ◌∷◌}
 use Rattle.std.specs.Float.Ieee.Bits.{is_true}
 use Rattle.formats.specs.Bytes.{impossible}
 use Rattle.refusals.specs.Stages.{require, or_else, stages, require-passed, or-else-passed, stages-passed}
-use Rattle.refusals.specs.Ranges.{firstMisfit}
+use Rattle.refusals.specs.Ranges.{first_misfit}
 use Rattle.refusals.specs.RangeLaws.{passed-fit, fit_passed, joined}
 use Rattle.refusals.specs.declared.Judgement.TheVariants as judgement
-use Rattle.channels.specs.Channel.{isSame, signed_of, width_of, same-is, is_same}
+use Rattle.channels.specs.Channel.{is_same, signed_of, width_of, same-is, is_same_lem}
 use Rattle.channels.specs.declared.Descriptor.{Descriptor}
 use Rattle.channels.specs.declared.Description.{Description}
 use Rattle.channels.specs.declared.Format.{Format}
-use Rattle.descriptions.specs.Description.{includesXY, fitsAttribute, fitsDescriptor, every, neat, all_fit, tidy, Valid}
+use Rattle.descriptions.specs.Description.{includes_xy, fits_attribute, fits_descriptor, every, neat, all_fit, tidy, Valid}
 use Rattle.descriptions.specs.EncodedLaws.{tidy-neat, tidy-marked, tidy-fits}
-use Rattle.description_judging.specs.Judging.{numbersOf, numbersFrom, numbers, neatIn, judgementOf}
+use Rattle.description_judging.specs.Judging.{numbers_of, numbers_from, numbers, neat_in, judgement_of}
 use Rattle.description_judging.specs.Marks.{PassesTidy}
 
 -- ---- The numbers
@@ -36,47 +36,47 @@ all-five a b c d e h =
 
 -- of a descriptor
 module _ (w channel : ℕ) (d : Descriptor) where
-  of-fit : firstMisfit (numbersOf w channel d) ≡ judgement.Passed → fitsDescriptor w channel d ≡ true
-  unfolding numbersOf fitsDescriptor
+  of-fit : first_misfit (numbers_of w channel d) ≡ judgement.Passed → fits_descriptor w channel d ≡ true
+  unfolding numbers_of fits_descriptor
   of-fit e =
       let x = passed-fit _ e in
       rw (x.0, x.1.0, x.1.1.0, x.1.1.1.0, x.1.1.1.1.0)
 
-  of-passed : fitsDescriptor w channel d ≡ true → firstMisfit (numbersOf w channel d) ≡ judgement.Passed
-  unfolding numbersOf fitsDescriptor
+  of-passed : fits_descriptor w channel d ≡ true → first_misfit (numbers_of w channel d) ≡ judgement.Passed
+  unfolding numbers_of fits_descriptor
   of-passed e =
       fit_passed
-      (numbersOf w channel d)
+      (numbers_of w channel d)
       (all-five
-      (fitsAttribute 2 false d.scaling)
-      (fitsAttribute w (signed_of channel) d.minimum)
-      (fitsAttribute w (signed_of channel) d.maximum)
-      (fitsAttribute w (signed_of channel) d.mean)
-      (fitsAttribute w false d.deviation)
+      (fits_attribute 2 false d.scaling)
+      (fits_attribute w (signed_of channel) d.minimum)
+      (fits_attribute w (signed_of channel) d.maximum)
+      (fits_attribute w (signed_of channel) d.mean)
+      (fits_attribute w false d.deviation)
       e)
 
 module _ (w : ℕ) where
   -- of the channels from i on
-  from-fit : (i : ℕ) (ds : List Descriptor) → firstMisfit (numbersFrom w i ds) ≡ judgement.Passed → every (fitsDescriptor w) i ds ≡ true
-  unfolding numbersFrom every
+  from-fit : (i : ℕ) (ds : List Descriptor) → first_misfit (numbers_from w i ds) ≡ judgement.Passed → every (fits_descriptor w) i ds ≡ true
+  unfolding numbers_from every
   from-fit i [] e = refl
   from-fit i (d ∷ ds) e =
-      let x = or-else-passed (firstMisfit (numbersOf w i d)) (firstMisfit (numbersFrom w (suc i) ds)) (rw (joined (numbersOf w i d) (numbersFrom w (suc i) ds)) at e) in
+      let x = or-else-passed (first_misfit (numbers_of w i d)) (first_misfit (numbers_from w (suc i) ds)) (rw (joined (numbers_of w i d) (numbers_from w (suc i) ds)) at e) in
       rw (of-fit w i d x.0) (from-fit (suc i) ds x.1)
 
-  from-passed : (i : ℕ) (ds : List Descriptor) → every (fitsDescriptor w) i ds ≡ true → firstMisfit (numbersFrom w i ds) ≡ judgement.Passed
-  unfolding numbersFrom every firstMisfit or_else
+  from-passed : (i : ℕ) (ds : List Descriptor) → every (fits_descriptor w) i ds ≡ true → first_misfit (numbers_from w i ds) ≡ judgement.Passed
+  unfolding numbers_from every first_misfit or_else
   from-passed i [] e = refl
   from-passed i (d ∷ ds) e =
-      let x = both (fitsDescriptor w i d) (every (fitsDescriptor w) (suc i) ds) e in
-      joined (numbersOf w i d) (numbersFrom w (suc i) ds) ∙ rw (of-passed w i d x.0) (from-passed (suc i) ds x.1)
+      let x = both (fits_descriptor w i d) (every (fits_descriptor w) (suc i) ds) e in
+      joined (numbers_of w i d) (numbers_from w (suc i) ds) ∙ rw (of-passed w i d x.0) (from-passed (suc i) ds x.1)
 
   -- no number is named exactly where all fit
-  pub none_named : (d : Description) → firstMisfit (numbers w d) ≡ judgement.Passed → all_fit w d ≡ true
+  pub none_named : (d : Description) → first_misfit (numbers w d) ≡ judgement.Passed → all_fit w d ≡ true
   unfolding numbers all_fit
   none_named d e = from-fit 0 d.channels e
 
-  pub all_pass : (d : Description) → all_fit w d ≡ true → firstMisfit (numbers w d) ≡ judgement.Passed
+  pub all_pass : (d : Description) → all_fit w d ≡ true → first_misfit (numbers w d) ≡ judgement.Passed
   unfolding numbers all_fit
   all_pass d e = from-passed 0 d.channels e
 
@@ -84,7 +84,7 @@ module _ (w : ℕ) where
 
 -- the tests of a description that is passed
 pub record Sound (format : Format) (d : Description) : Type 0 where
-  pub xy : T (includesXY d)
+  pub xy : T (includes_xy d)
   pub marked : d.mark ≡ format
   pub neat : T (neat d)
   pub ranges : T (all_fit (width_of format) d)
@@ -93,26 +93,26 @@ holds : {t : Bool} → t ≡ true → T t
 holds e = rw e tt
 
 module _ (format : Format) (d : Description) where
-  pub passed-sound : judgementOf format d ≡ judgement.Passed → Sound format d
-  unfolding judgementOf neatIn
+  pub passed-sound : judgement_of format d ≡ judgement.Passed → Sound format d
+  unfolding judgement_of neat_in
   passed-sound e =
       let s = stages-passed _ e in
-      let n = both (isSame d.mark format) (neat d) (require-passed _ _ s.1.0) in
+      let n = both (is_same d.mark format) (neat d) (require-passed _ _ s.1.0) in
       record { xy = holds (require-passed _ _ s.0); marked = same-is d.mark format n.0; neat = holds n.1; ranges = holds (none_named (width_of format) d s.1.1.0) }
 
   -- passed and sixteen channels: that is to be valid
-  pub passed-valid : judgementOf format d ≡ judgement.Passed → length d.channels ≡ 16 → Valid format d
+  pub passed-valid : judgement_of format d ≡ judgement.Passed → length d.channels ≡ 16 → Valid format d
   passed-valid e h = let s = passed-sound e in record { sixteen = h; xy = s.xy; marked = s.marked; tidy = tidy-marked format d s.marked s.neat s.ranges }
 
-  sound-passed : Sound format d → judgementOf format d ≡ judgement.Passed
-  unfolding judgementOf neatIn stages or_else require
+  sound-passed : Sound format d → judgement_of format d ≡ judgement.Passed
+  unfolding judgement_of neat_in stages or_else require
   sound-passed s =
-      rw (is_true (includesXY d) s.xy, is_same d.mark format s.marked, is_true (neat d) s.neat, all_pass (width_of format) d (is_true (all_fit (width_of format) d) s.ranges))
+      rw (is_true (includes_xy d) s.xy, is_same_lem d.mark format s.marked, is_true (neat d) s.neat, all_pass (width_of format) d (is_true (all_fit (width_of format) d) s.ranges))
 
-  tidy-sound : T (includesXY d) → d.mark ≡ format → T (tidy d) → Sound format d
+  tidy-sound : T (includes_xy d) → d.mark ≡ format → T (tidy d) → Sound format d
   tidy-sound h e t = record { xy = h; marked = e; neat = tidy-neat d t; ranges = tidy-fits format d e t }
 
-  pub valid-passed : Valid format d → (judgementOf format d ≡ judgement.Passed) × (length d.channels ≡ 16)
+  pub valid-passed : Valid format d → (judgement_of format d ≡ judgement.Passed) × (length d.channels ≡ 16)
   valid-passed v = (sound-passed (tidy-sound v.xy v.marked v.tidy), v.sixteen)
 
 pub passes-tidy : PassesTidy

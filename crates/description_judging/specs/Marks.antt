@@ -3,9 +3,9 @@ use Rattle.std.specs.Prelude.{◌≡◌, ◌↔◌, T}
 use Rattle.refusals.specs.declared.Judgement.TheVariants.{Passed}
 use Rattle.channels.specs.declared.Description.{Description}
 use Rattle.channels.specs.declared.Format.{Format}
-use Rattle.descriptions.specs.Description.{includesXY, tidy}
-use Rattle.description_judging.specs.Judging.{judgementOf}
+use Rattle.descriptions.specs.Description.{includes_xy, tidy}
+use Rattle.description_judging.specs.Judging.{judgement_of}
 
 -- a description is passed exactly where X and Y are included, it has the mark of the format, and it is tidy
 abbrev pub PassesTidy : Type 0
-PassesTidy = (format : Format) (d : Description) → (judgementOf format d ≡ Passed) ↔ (T (includesXY d) × ((d.mark ≡ format) × T (tidy d)))
+PassesTidy = (format : Format) (d : Description) → (judgement_of format d ≡ Passed) ↔ (T (includes_xy d) × ((d.mark ≡ format) × T (tidy d)))

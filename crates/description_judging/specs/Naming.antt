@@ -13,27 +13,27 @@ use Rattle.channels.specs.declared.Attribute.{Attribute}
 use Rattle.channels.specs.declared.Descriptor.{Descriptor}
 use Rattle.channels.specs.declared.Description.{Description}
 use Rattle.channels.specs.declared.Format.{Format}
-use Rattle.descriptions.specs.Description.{includesXY}
-use Rattle.description_judging.specs.Judging.{numbers, neatIn, judgementOf}
+use Rattle.descriptions.specs.Description.{includes_xy}
+use Rattle.description_judging.specs.Judging.{numbers, neat_in, judgement_of}
 
 -- judge names this number: its promise, where the answer is 12
 abbrev pub Names : Format → Description → Quantity → Type 0
-Names format d name = Refused (OutOfRange name) ≡ judgementOf format d
+Names format d name = Refused (OutOfRange name) ≡ judgement_of format d
 
 -- ---- The claims
 
 -- behind 4 and 11, 12 names a number exactly where that is out of its range and every earlier one in stored order is in its own
 abbrev pub NamesFirst : Type 0
 NamesFirst =
-    (format : Format) (d : Description) (name : Quantity) → Names format d name ↔ (T (includesXY d) × (T (neatIn format d) × FirstOutside (numbers (width_of format) d) name))
+    (format : Format) (d : Description) (name : Quantity) → Names format d name ↔ (T (includes_xy d) × (T (neat_in format d) × FirstOutside (numbers (width_of format) d) name))
 
 -- the attribute of a name
-abbrev pub attributeOf : AttributeName → Descriptor → Attribute
-attributeOf Scaling d = d.scaling
-attributeOf Minimum d = d.minimum
-attributeOf Maximum d = d.maximum
-attributeOf Mean d = d.mean
-attributeOf Deviation d = d.deviation
+abbrev pub attribute_of : AttributeName → Descriptor → Attribute
+attribute_of Scaling d = d.scaling
+attribute_of Minimum d = d.minimum
+attribute_of Maximum d = d.maximum
+attribute_of Mean d = d.mean
+attribute_of Deviation d = d.deviation
 
 -- a number is an attribute of one of the channels, and its flag is set
 pub record GivenAttribute (d : Description) (name : Quantity) : Type 0 where
@@ -41,7 +41,7 @@ pub record GivenAttribute (d : Description) (name : Quantity) : Type 0 where
   pub attribute : AttributeName
   pub is : name ≡ quantity.Attribute channel attribute
   pub there : channel < length d.channels
-  pub given : (attributeOf attribute (get_or d.channels channel absent)).given ≡ true
+  pub given : (attribute_of attribute (get_or d.channels channel absent)).given ≡ true
 
 -- a number without its flag is never named
 abbrev pub NamesGiven : Type 0

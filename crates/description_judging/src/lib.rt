@@ -2,19 +2,19 @@
 ghost use Rattle.std.specs.Prelude.{◌≡◌, Bool, ◌&&◌, ℕ, ◌-◌, ◌^◌, T};
 ghost use Rattle.channels.specs.Channel.{signed_of, width_of};
 ghost use Rattle.channels.specs.Stored.{value_of};
-ghost use Rattle.descriptions.specs.Description.{includesXY, tidyAttribute, flagless, tidyDescriptor, neat, fitsAttribute, fitsDescriptor, all_fit};
-ghost use Rattle.refusals.specs.Ranges.{firstMisfit};
+ghost use Rattle.descriptions.specs.Description.{includes_xy, tidy_attribute, flagless, tidy_descriptor, neat, fits_attribute, fits_descriptor, all_fit};
+ghost use Rattle.refusals.specs.Ranges.{first_misfit};
 ghost use Rattle.refusals.specs.declared.Quantity.TheVariants as quantity;
 ghost use Rattle.refusals.specs.declared.Refusal.TheVariants.{OutOfRange};
 ghost use Rattle.refusals.specs.declared.Judgement.TheVariants.{Refused};
-ghost use Rattle.description_judging.specs.Judging.{numbersOf, numbers, judgementOf};
+ghost use Rattle.description_judging.specs.Judging.{numbers_of, numbers, judgement_of};
 
 use channels::{Attribute, Description, Descriptor, Format};
 use refusals::{AttributeName, Judgement, Quantity, Refusal, Where};
 
 // X and Y are in each record.
 fn has_x_and_y(description: Description) -> bool
-    ensures { result ≡ includesXY description }
+    ensures { result ≡ includes_xy description }
 {
     let x = description.channels[channels::X];
     let y = description.channels[channels::Y];
@@ -23,7 +23,7 @@ fn has_x_and_y(description: Description) -> bool
 
 // An attribute that isn't given holds zero.
 fn tidy_attribute(attribute: Attribute) -> bool
-    ensures { result ≡ tidyAttribute attribute }
+    ensures { result ≡ tidy_attribute attribute }
 {
     attribute.given | (attribute.number == 0)
 }
@@ -43,7 +43,7 @@ fn has_no_flag(d: Descriptor) -> bool
 
 // A channel that isn't included has no flag, and no number stands without its flag.
 fn tidy_descriptor(d: Descriptor) -> bool
-    ensures { result ≡ tidyDescriptor d }
+    ensures { result ≡ tidy_descriptor d }
 {
     (d.included | has_no_flag(d))
         & (tidy_attribute(d.scaling)
@@ -80,7 +80,7 @@ fn largest(format: Format) -> u16
 
 // An attribute that isn't given holds zero, and one that is given a number from `least` to `most`.
 fn sound_attribute(attribute: Attribute, least: i32, most: i32) -> bool
-    ensures { (w : ℕ) (signed : Bool) → least ≡ value_of w signed 0 → most ≡ value_of w signed (256 ^ w - 1) → result ≡ (tidyAttribute attribute && fitsAttribute w signed attribute) }
+    ensures { (w : ℕ) (signed : Bool) → least ≡ value_of w signed 0 → most ≡ value_of w signed (256 ^ w - 1) → result ≡ (tidy_attribute attribute && fits_attribute w signed attribute) }
 {
     let first = if attribute.given { least } else { 0 };
     let last = if attribute.given { most } else { 0 };
@@ -90,7 +90,7 @@ fn sound_attribute(attribute: Attribute, least: i32, most: i32) -> bool
 // Whether a descriptor is tidy and each of its given numbers can be stored, in one look.
 // The scaling value has two bytes in either format, and neither it nor the deviation has a sign.
 fn sound_descriptor(d: Descriptor, format: Format, signed: bool) -> bool
-    ensures { (channel : ℕ) → signed ≡ signed_of channel → result ≡ (tidyDescriptor d && fitsDescriptor (width_of format) channel d) }
+    ensures { (channel : ℕ) → signed ≡ signed_of channel → result ≡ (tidy_descriptor d && fits_descriptor (width_of format) channel d) }
 {
     let largest = largest(format);
     let least = channels::value_of(format, signed, 0);
@@ -134,8 +134,8 @@ fn outside(channel: usize, name: AttributeName) -> Judgement
 
 // The first number of a tidy descriptor that is out of its range, scaling to deviation. The check is the same: of a tidy attribute it says whether it fits.
 fn judge_numbers(d: Descriptor, channel: usize, format: Format) -> Judgement
-    requires { T (tidyDescriptor d) }
-    ensures { result ≡ firstMisfit (numbersOf (width_of format) channel d) }
+    requires { T (tidy_descriptor d) }
+    ensures { result ≡ first_misfit (numbers_of (width_of format) channel d) }
 {
     let signed = channels::is_signed(channel);
     let largest = largest(format);
@@ -162,7 +162,7 @@ fn judge_numbers(d: Descriptor, channel: usize, format: Format) -> Judgement
 // The first number of a neat description that is out of its range, channel after channel.
 fn first_misfit(description: Description, format: Format) -> Judgement
     requires { T (neat description) }
-    ensures { result ≡ firstMisfit (numbers (width_of format) description) }
+    ensures { result ≡ first_misfit (numbers (width_of format) description) }
 {
     let mut i: usize = 0;
     while i < 16 {
@@ -179,7 +179,7 @@ fn first_misfit(description: Description, format: Format) -> Judgement
 // Whether a description can be written in a format: refusals 4, 11 and 12 of document 01, stage by stage, so that an untidy R comes before
 // a number of X that is out of range. A description of the other format is refused with 11, whatever it says (request L4).
 pub fn judge(description: Description, format: Format) -> Judgement
-    ensures { result ≡ judgementOf format description }
+    ensures { result ≡ judgement_of format description }
 {
     let sound = is_sound(description, format);
     if !has_x_and_y(description) {

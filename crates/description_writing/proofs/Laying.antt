@@ -12,45 +12,45 @@ use lib.Seq.{drop-cons}
 use Rattle.formats.specs.Ascend.{ascend}
 use Rattle.formats.specs.Laid.{Room, Laid, laid_more, room-rest}
 use Rattle.formats.specs.Number.{digits, length_digits}
-use Rattle.formats.specs.Writes.{encodeEach}
+use Rattle.formats.specs.Writes.{encode_each}
 use Rattle.channels.specs.Channel.{channels, signed_of}
-use Rattle.channels.specs.Stored.{value_of, storedOf, fits}
+use Rattle.channels.specs.Stored.{value_of, stored_of, fits}
 use Rattle.channels.specs.declared.Attribute.{Attribute}
 use Rattle.channels.specs.declared.Descriptor.{Descriptor}
 use Rattle.channels.specs.Descriptors.{absent}
-use Rattle.descriptions.specs.Description.{encodeAttribute, encodeDescriptor, encodeChannel, fitsAttribute, fitsDescriptor}
+use Rattle.descriptions.specs.Description.{encode_attribute, encode_descriptor, encode_channel, fits_attribute, fits_descriptor}
 
 -- ---- An attribute
 
 module _ (w : ℕ) (signed : Bool) (a : Attribute) where
-  pub attribute-none : a.given ≡ false → encodeAttribute w signed a ≡ []
-  unfolding encodeAttribute
+  pub attribute-none : a.given ≡ false → encode_attribute w signed a ≡ []
+  unfolding encode_attribute
   attribute-none e = rw e
 
-  pub attribute-given : a.given ≡ true → encodeAttribute w signed a ≡ digits w (storedOf w signed a.number)
-  unfolding encodeAttribute
+  pub attribute-given : a.given ≡ true → encode_attribute w signed a ≡ digits w (stored_of w signed a.number)
+  unfolding encode_attribute
   attribute-given e = rw e
 
-  pub fits-given : a.given ≡ true → T (fitsAttribute w signed a) → T (fits w signed a.number)
-  unfolding fitsAttribute
+  pub fits-given : a.given ≡ true → T (fits_attribute w signed a) → T (fits w signed a.number)
+  unfolding fits_attribute
   fits-given e h = rw e at h
 
-  pub attribute-length : length (encodeAttribute w signed a) ≡ cond a.given w 0
-  unfolding encodeAttribute
+  pub attribute-length : length (encode_attribute w signed a) ≡ cond a.given w 0
+  unfolding encode_attribute
   attribute-length = go a.given
     where
-      go : (t : Bool) → length (cond t (digits w (storedOf w signed a.number)) []) ≡ cond t w 0
-      go true = length_digits w (storedOf w signed a.number)
+      go : (t : Bool) → length (cond t (digits w (stored_of w signed a.number)) []) ≡ cond t w 0
+      go true = length_digits w (stored_of w signed a.number)
       go false = refl
 
 -- it is laid behind what was laid, from the least number of its kind
 module _ {s : List ℕ} {start : ℕ} {b t : List ℕ} {at : ℕ} (l : Laid s start b t at) (w : ℕ) (signed : Bool) {least : ℤ} (e : least ≡ value_of w signed 0) (a : Attribute) where
-  pub attribute-ready : T (fitsAttribute w signed a) → Room s start (b ++ encodeAttribute w signed a)
-      → (sign : Bool) × (least ≡ value_of w sign 0) × T (fitsAttribute w sign a) × Room t at (encodeAttribute w sign a)
+  pub attribute-ready : T (fits_attribute w signed a) → Room s start (b ++ encode_attribute w signed a)
+      → (sign : Bool) × (least ≡ value_of w sign 0) × T (fits_attribute w sign a) × Room t at (encode_attribute w sign a)
   attribute-ready f r = (signed, e, f, room-rest l r)
 
-  pub attribute-laid : {u : List ℕ} {end : ℕ} → ((sign : Bool) → least ≡ value_of w sign 0 → Laid t at (encodeAttribute w sign a) u end)
-      → Laid s start (b ++ encodeAttribute w signed a) u end
+  pub attribute-laid : {u : List ℕ} {end : ℕ} → ((sign : Bool) → least ≡ value_of w sign 0 → Laid t at (encode_attribute w sign a) u end)
+      → Laid s start (b ++ encode_attribute w signed a) u end
   attribute-laid k = laid_more l (k signed e)
 
 -- ---- A channel
@@ -64,41 +64,41 @@ all-five false b c d e h = absurd h
 
 module _ (w channel : ℕ) (d : Descriptor) where
   pub record FitsEach : Type 0 where
-    pub scaling : T (fitsAttribute 2 false d.scaling)
-    pub minimum : T (fitsAttribute w (signed_of channel) d.minimum)
-    pub maximum : T (fitsAttribute w (signed_of channel) d.maximum)
-    pub mean : T (fitsAttribute w (signed_of channel) d.mean)
-    pub deviation : T (fitsAttribute w false d.deviation)
+    pub scaling : T (fits_attribute 2 false d.scaling)
+    pub minimum : T (fits_attribute w (signed_of channel) d.minimum)
+    pub maximum : T (fits_attribute w (signed_of channel) d.maximum)
+    pub mean : T (fits_attribute w (signed_of channel) d.mean)
+    pub deviation : T (fits_attribute w false d.deviation)
 
-  pub fits_each : T (fitsDescriptor w channel d) → FitsEach
-  unfolding fitsDescriptor
+  pub fits_each : T (fits_descriptor w channel d) → FitsEach
+  unfolding fits_descriptor
   fits_each h =
       let f = all-five
-      (fitsAttribute 2 false d.scaling)
-      (fitsAttribute w (signed_of channel) d.minimum)
-      (fitsAttribute w (signed_of channel) d.maximum)
-      (fitsAttribute w (signed_of channel) d.mean)
-      (fitsAttribute w false d.deviation)
+      (fits_attribute 2 false d.scaling)
+      (fits_attribute w (signed_of channel) d.minimum)
+      (fits_attribute w (signed_of channel) d.maximum)
+      (fits_attribute w (signed_of channel) d.mean)
+      (fits_attribute w false d.deviation)
       h in
       record { scaling = f.0; minimum = f.1; maximum = f.2; mean = f.3; deviation = f.4 }
 
-  pub channel-none : d.included ≡ false → encodeChannel w channel d ≡ []
-  unfolding encodeChannel
+  pub channel-none : d.included ≡ false → encode_channel w channel d ≡ []
+  unfolding encode_channel
   channel-none e = rw e
 
-  pub channel-included : d.included ≡ true → encodeChannel w channel d ≡ encodeDescriptor w channel d
-  unfolding encodeChannel
+  pub channel-included : d.included ≡ true → encode_channel w channel d ≡ encode_descriptor w channel d
+  unfolding encode_channel
   channel-included e = rw e
 
   -- the descriptor byte, and what each attribute has
-  pub descriptor-length : length (encodeDescriptor w channel d)
+  pub descriptor-length : length (encode_descriptor w channel d)
       ≡ 1
       + cond d.scaling.given 2 0
       + cond d.minimum.given w 0
       + cond d.maximum.given w 0
       + cond d.mean.given w 0
       + cond d.deviation.given w 0
-  unfolding encodeDescriptor
+  unfolding encode_descriptor
   descriptor-length = simp (length-append, attribute-length) (omega arith)
 
 -- ---- The channels that are left
@@ -117,14 +117,14 @@ nth-channel i h = nth_up 16 0 i h ∙ omega arith
 
 module _ (w : ℕ) (ds : List Descriptor) where
   unfoldable pub left : ℕ → List ℕ
-  left i = encodeEach (encodeChannel w) (drop i channels) (drop i ds)
+  left i = encode_each (encode_channel w) (drop i channels) (drop i ds)
 
-  pub left-next : length ds ≡ 16 → (i : ℕ) → i < 16 → left i ≡ encodeChannel w i (get_or ds i absent) ++ left (i + 1)
-  unfolding left encodeEach
+  pub left-next : length ds ≡ 16 → (i : ℕ) → i < 16 → left i ≡ encode_channel w i (get_or ds i absent) ++ left (i + 1)
+  unfolding left encode_each
   left-next e i h = rw (add-one i, drop-cons channels i 0 h, drop-cons ds i absent (omega arith), nth-channel i h)
 
   pub left-none : (i : ℕ) → 16 ≤ i → left i ≡ []
-  unfolding left encodeEach
+  unfolding left encode_each
   left-none i h = rw (drop_of_length-le channels {i = i} h)
 
 -- the inclusion bits that are left

@@ -10,27 +10,27 @@ use Rattle.refusals.specs.declared.Judgement.TheVariants as judgement
 use Rattle.channels.specs.Channel.{width_of}
 use Rattle.channels.specs.declared.Description.{Description}
 use Rattle.channels.specs.declared.Format.{Format}
-use Rattle.descriptions.specs.Description.{encodeDescription}
-use Rattle.description_judging.specs.Judging.{judgementOf}
-use Rattle.description_writing.specs.Write.{putIf}
+use Rattle.descriptions.specs.Description.{encode_description}
+use Rattle.description_judging.specs.Judging.{judgement_of}
+use Rattle.description_writing.specs.Write.{put_if}
 use Rattle.description_writing.specs.WriteLaws.{put-done, put_refused}
 use Rattle.description_writing.specs.declared.Written.{Written}
 use Rattle.description_writing.specs.declared.Written.TheVariants.{Done, Refused}
 
-module _ (format : Format) (d : Description) (s t : List ℕ) (a : Written) (p : writing a t ≡ putIf format d s 0) (h : length (encodeDescription (width_of format) d) ≤ length s) where
+module _ (format : Format) (d : Description) (s t : List ℕ) (a : Written) (p : writing a t ≡ put_if format d s 0) (h : length (encode_description (width_of format) d) ≤ length s) where
   abbrev bytes : List ℕ
-  bytes = encodeDescription (width_of format) d
+  bytes = encode_description (width_of format) d
 
-  done : judgementOf format d ≡ judgement.Passed → writing a t ≡ writing (Done (0 + length bytes)) (puts s 0 bytes)
+  done : judgement_of format d ≡ judgement.Passed → writing a t ≡ writing (Done (0 + length bytes)) (puts s 0 bytes)
   done e = p ∙ put-done format d s 0 e (omega (arith, h))
 
-  refused : {refusal : Refusal} → judgementOf format d ≡ judgement.Refused refusal → a ≡ Refused refusal
+  refused : {refusal : Refusal} → judgement_of format d ≡ judgement.Refused refusal → a ≡ Refused refusal
   refused e = ap (λ x. x.answer) (p ∙ put_refused format d s 0 e)
 
-  pub aside-done : {n : ℕ} → a ≡ Done n → (judgementOf format d ≡ judgement.Passed) × (n ≤ length t) × (take (n - 0) t ≡ bytes)
-  aside-done {n} q = go (judgementOf format d) refl
+  pub aside-done : {n : ℕ} → a ≡ Done n → (judgement_of format d ≡ judgement.Passed) × (n ≤ length t) × (take (n - 0) t ≡ bytes)
+  aside-done {n} q = go (judgement_of format d) refl
     where
-      go : (j : Judgement) → judgementOf format d ≡ j → (judgementOf format d ≡ judgement.Passed) × (n ≤ length t) × (take (n - 0) t ≡ bytes)
+      go : (j : Judgement) → judgement_of format d ≡ j → (judgement_of format d ≡ judgement.Passed) × (n ≤ length t) × (take (n - 0) t ≡ bytes)
       go judgement.Passed e =
           let b = ap (λ x. x.bytes) (done e) in
           let f = ap (λ x. x.answer) (done e) in
@@ -42,9 +42,9 @@ module _ (format : Format) (d : Description) (s t : List ℕ) (a : Written) (p :
           )
       go (judgement.Refused refusal) e = let f = refused e in impossible (cc)
 
-  pub aside-refused : {refusal : Refusal} → a ≡ Refused refusal → judgementOf format d ≡ judgement.Refused refusal
-  aside-refused {refusal} q = go (judgementOf format d) refl
+  pub aside-refused : {refusal : Refusal} → a ≡ Refused refusal → judgement_of format d ≡ judgement.Refused refusal
+  aside-refused {refusal} q = go (judgement_of format d) refl
     where
-      go : (j : Judgement) → judgementOf format d ≡ j → j ≡ judgement.Refused refusal
+      go : (j : Judgement) → judgement_of format d ≡ j → j ≡ judgement.Refused refusal
       go judgement.Passed e = let f = ap (λ x. x.answer) (done e) in impossible (cc)
       go (judgement.Refused other) e = let f = refused e in cc

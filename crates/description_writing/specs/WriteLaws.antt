@@ -5,7 +5,7 @@ use borrow.Author.Tests.{le-leb, lt-leb}
 use Rattle.std.proofs.Math.ListN.{length, drop}
 use Rattle.std.proofs.Math.Seq.{drop_at}
 use Rattle.formats.specs.Put.{puts, puts-is}
-use Rattle.formats.specs.Reader.{ok, after, readAt}
+use Rattle.formats.specs.Reader.{ok, after, read_at}
 use Rattle.formats.specs.Writes.{read-written}
 use Rattle.formats.specs.Lent.{writing}
 use Rattle.refusals.specs.declared.Refusal.{Refusal}
@@ -14,34 +14,34 @@ use Rattle.refusals.specs.declared.Judgement.TheVariants as judgement
 use Rattle.channels.specs.Channel.{width_of}
 use Rattle.channels.specs.declared.Description.{Description}
 use Rattle.channels.specs.declared.Format.{Format}
-use Rattle.descriptions.specs.Description.{description, encodeDescription, Valid}
+use Rattle.descriptions.specs.Description.{description, encode_description, Valid}
 use Rattle.descriptions.specs.EncodedLaws.{writes-description}
-use Rattle.description_judging.specs.Judging.{judgementOf}
-use Rattle.description_writing.specs.Write.{putRoom, putJudged, putIf}
+use Rattle.description_judging.specs.Judging.{judgement_of}
+use Rattle.description_writing.specs.Write.{put_room, put_judged, put_if}
 use Rattle.description_writing.specs.declared.Written.TheVariants.{Done, Refused}
 
 -- by the judgement and the room
 
 module _ (format : Format) (d : Description) (out : List ℕ) (start : ℕ) where
-  pub put-done : judgementOf format d ≡ judgement.Passed → start + length (encodeDescription (width_of format) d) ≤ length out
-      → putIf format d out start ≡ writing (Done (start + length (encodeDescription (width_of format) d))) (puts out start (encodeDescription (width_of format) d))
-  unfolding putIf putJudged putRoom
-  put-done e h = rw (e, le-leb (start + length (encodeDescription (width_of format) d)) (length out) h)
+  pub put-done : judgement_of format d ≡ judgement.Passed → start + length (encode_description (width_of format) d) ≤ length out
+      → put_if format d out start ≡ writing (Done (start + length (encode_description (width_of format) d))) (puts out start (encode_description (width_of format) d))
+  unfolding put_if put_judged put_room
+  put-done e h = rw (e, le-leb (start + length (encode_description (width_of format) d)) (length out) h)
 
-  pub put-crowded : judgementOf format d ≡ judgement.Passed → length out < start + length (encodeDescription (width_of format) d) → putIf format d out start ≡ writing (Refused Room) out
-  unfolding putIf putJudged putRoom
-  put-crowded e h = rw (e, lt-leb (start + length (encodeDescription (width_of format) d)) (length out) h)
+  pub put-crowded : judgement_of format d ≡ judgement.Passed → length out < start + length (encode_description (width_of format) d) → put_if format d out start ≡ writing (Refused Room) out
+  unfolding put_if put_judged put_room
+  put-crowded e h = rw (e, lt-leb (start + length (encode_description (width_of format) d)) (length out) h)
 
-  pub put_refused : {refusal : Refusal} → judgementOf format d ≡ judgement.Refused refusal → putIf format d out start ≡ writing (Refused refusal) out
-  unfolding putIf putJudged
+  pub put_refused : {refusal : Refusal} → judgement_of format d ≡ judgement.Refused refusal → put_if format d out start ≡ writing (Refused refusal) out
+  unfolding put_if put_judged
   put_refused e = rw e
 
   -- what is written reads back as the description, to where it was said to end
-  pub put_reads : Valid format d → start + length (encodeDescription (width_of format) d) ≤ length out
-      → readAt (description format) (puts out start (encodeDescription (width_of format) d)) start ≡ ok d (start + length (encodeDescription (width_of format) d))
-  unfolding readAt after
+  pub put_reads : Valid format d → start + length (encode_description (width_of format) d) ≤ length out
+      → read_at (description format) (puts out start (encode_description (width_of format) d)) start ≡ ok d (start + length (encode_description (width_of format) d))
+  unfolding read_at after
   put_reads v h =
-      let b = encodeDescription (width_of format) d in
+      let b = encode_description (width_of format) d in
       rw
       (puts-is out start b h, drop_at (take start out) (b ++ drop (start + length b) out) start (length-take-le start out (omega arith)))
       (ap (after start) (read-written (writes-description format) (drop (start + length b) out) v))

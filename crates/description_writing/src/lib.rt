@@ -6,8 +6,8 @@ ghost use Rattle.formats.specs.Lent.{writing};
 ghost use Rattle.channels.specs.Channel.{signed_of, width_of};
 ghost use Rattle.channels.specs.Descriptors.{included};
 ghost use Rattle.channels.specs.Stored.{value_of};
-ghost use Rattle.descriptions.specs.Description.{fitsAttribute, fitsDescriptor, all_fit, encodeAttribute, descriptorByte, encodeDescriptor, encodeChannel, encodeDescription};
-ghost use Rattle.description_writing.specs.Write.{putRoom, putIf};
+ghost use Rattle.descriptions.specs.Description.{fits_attribute, fits_descriptor, all_fit, encode_attribute, descriptor_byte, encode_descriptor, encode_channel, encode_description};
+ghost use Rattle.description_writing.specs.Write.{put_room, put_if};
 
 use channels::{Attribute, Description, Descriptor, Format};
 use refusals::{Judgement, Refusal};
@@ -25,7 +25,7 @@ fn attribute_size(attribute: Attribute, format: Format) -> usize
 
 // How many bytes a channel has, whichever it is.
 fn channel_size(d: Descriptor, format: Format) -> usize
-    ensures { (channel : ℕ) → result ≡ length (encodeChannel (width_of format) channel d) }
+    ensures { (channel : ℕ) → result ≡ length (encode_channel (width_of format) channel d) }
 {
     if !d.included {
         return 0;
@@ -40,7 +40,7 @@ fn channel_size(d: Descriptor, format: Format) -> usize
 
 // How many bytes the description has when it is written.
 pub fn size(description: Description, format: Format) -> usize
-    ensures { result ≡ length (encodeDescription (width_of format) description) }
+    ensures { result ≡ length (encode_description (width_of format) description) }
 {
     let mut total: usize = 2;
     let mut i: usize = 0;
@@ -61,7 +61,7 @@ fn weight(flag: bool, value: u16) -> u16
 
 // The seven flags from bit 8 down, and a zero (7.3.4.2).
 fn descriptor_byte(d: Descriptor) -> u8
-    ensures { result ≡ descriptorByte d }
+    ensures { result ≡ descriptor_byte d }
 {
     let flags = weight(d.scaling.given, 128)
         + weight(d.minimum.given, 64)
@@ -97,8 +97,8 @@ fn put_attribute(
     format: Format,
     least: i32,
 ) -> usize
-    requires { (signed : Bool) × (least ≡ value_of (width_of format) signed 0) × T (fitsAttribute (width_of format) signed attribute) × Room out.old at (encodeAttribute (width_of format) signed attribute) }
-    ensures { (signed : Bool) → least ≡ value_of (width_of format) signed 0 → Laid out.old at (encodeAttribute (width_of format) signed attribute) out.new result }
+    requires { (signed : Bool) × (least ≡ value_of (width_of format) signed 0) × T (fits_attribute (width_of format) signed attribute) × Room out.old at (encode_attribute (width_of format) signed attribute) }
+    ensures { (signed : Bool) → least ≡ value_of (width_of format) signed 0 → Laid out.old at (encode_attribute (width_of format) signed attribute) out.new result }
 {
     if !attribute.given {
         return at;
@@ -117,8 +117,8 @@ fn put_descriptor(
     signed: bool,
     format: Format,
 ) -> usize
-    requires { (channel : ℕ) × (signed ≡ signed_of channel) × T (fitsDescriptor (width_of format) channel d) × Room out.old start (encodeDescriptor (width_of format) channel d) }
-    ensures { (channel : ℕ) → signed ≡ signed_of channel → Laid out.old start (encodeDescriptor (width_of format) channel d) out.new result }
+    requires { (channel : ℕ) × (signed ≡ signed_of channel) × T (fits_descriptor (width_of format) channel d) × Room out.old start (encode_descriptor (width_of format) channel d) }
+    ensures { (channel : ℕ) → signed ≡ signed_of channel → Laid out.old start (encode_descriptor (width_of format) channel d) out.new result }
 {
     let full = Format::Full;
     let least = channels::value_of(format, signed, 0);
@@ -132,8 +132,8 @@ fn put_descriptor(
 
 // A channel that isn't included has no bytes.
 fn put_channel(out: &mut [u8], at: usize, d: Descriptor, signed: bool, format: Format) -> usize
-    requires { (channel : ℕ) × (signed ≡ signed_of channel) × T (fitsDescriptor (width_of format) channel d) × Room out.old at (encodeChannel (width_of format) channel d) }
-    ensures { (channel : ℕ) → signed ≡ signed_of channel → Laid out.old at (encodeChannel (width_of format) channel d) out.new result }
+    requires { (channel : ℕ) × (signed ≡ signed_of channel) × T (fits_descriptor (width_of format) channel d) × Room out.old at (encode_channel (width_of format) channel d) }
+    ensures { (channel : ℕ) → signed ≡ signed_of channel → Laid out.old at (encode_channel (width_of format) channel d) out.new result }
 {
     if !d.included {
         return at;
@@ -143,8 +143,8 @@ fn put_channel(out: &mut [u8], at: usize, d: Descriptor, signed: bool, format: F
 
 // The inclusion bits, which have two bytes in either format, and the sixteen channels in their order.
 fn put_description(out: &mut [u8], start: usize, description: Description, format: Format) -> usize
-    requires { T (all_fit (width_of format) description) × Room out.old start (encodeDescription (width_of format) description) }
-    ensures { Laid out.old start (encodeDescription (width_of format) description) out.new result }
+    requires { T (all_fit (width_of format) description) × Room out.old start (encode_description (width_of format) description) }
+    ensures { Laid out.old start (encode_description (width_of format) description) out.new result }
 {
     let full = Format::Full;
     let mut signs = channels::signs();
@@ -178,7 +178,7 @@ fn longest(format: Format) -> usize
 
 // Where the longest would have room, it isn't asked how long this one is.
 fn has_room(room: usize, description: Description, format: Format) -> bool
-    ensures { result ≡ leb (length (encodeDescription (width_of format) description)) room }
+    ensures { result ≡ leb (length (encode_description (width_of format) description)) room }
 {
     longest(format) <= room || size(description, format) <= room
 }
@@ -186,7 +186,7 @@ fn has_room(room: usize, description: Description, format: Format) -> bool
 // The room is looked at before a byte is put.
 fn put_where_room(out: &mut [u8], start: usize, description: Description, format: Format) -> Written
     requires { T (all_fit (width_of format) description) }
-    ensures { writing result out.new ≡ putRoom out.old start (encodeDescription (width_of format) description) }
+    ensures { writing result out.new ≡ put_room out.old start (encode_description (width_of format) description) }
 {
     if out.len() < start {
         return Written::Refused(Refusal::Room);
@@ -200,7 +200,7 @@ fn put_where_room(out: &mut [u8], start: usize, description: Description, format
 
 // The description is written from a place of the output on; where it is refused or there is no room, nothing is.
 pub fn put(out: &mut [u8], start: usize, description: Description, format: Format) -> Written
-    ensures { writing result out.new ≡ putIf format description out.old start }
+    ensures { writing result out.new ≡ put_if format description out.old start }
 {
     let judged = description_judging::judge(description, format);
     if let Judgement::Refused(refusal) = judged {

@@ -12,7 +12,7 @@ use lib.ListN.{length, get_or}
 use Rattle.formats.specs.Bytes.{impossible}
 use borrow.Author.Tests.{eqb-true, eqb-false}
 use Rattle.formats.specs.Binary.{bit}
-use Rattle.formats.specs.Reader.{Reader, done, ok, short, mapped, readAt, bind, one}
+use Rattle.formats.specs.Reader.{Reader, done, ok, short, mapped, read_at, bind, one}
 use Rattle.formats.specs.Compose.{at_done, at-pass, at-bind-ok}
 use Rattle.formats.specs.Number.{number, at-number, at-number-short}
 use Rattle.formats.specs.Told.{told, told-mapped, told-done, told-failed, at-bind-failed}
@@ -23,17 +23,17 @@ use Rattle.channels.specs.declared.Attribute.{Attribute}
 use Rattle.channels.specs.declared.Descriptor.{Descriptor}
 use Rattle.formats.specs.declared.Failure.TheVariants.{Short}
 use Rattle.formats.specs.declared.Outcome.TheVariants.{Done}
-use Rattle.channels.specs.Descriptors.{isStored}
+use Rattle.channels.specs.Descriptors.{is_stored}
 use Rattle.descriptions.specs.Description.{announced, reserved, attribute, descriptor}
-use Rattle.descriptions.specs.Read.{attributesSize, descriptorSize}
+use Rattle.descriptions.specs.Read.{attributes_size, descriptor_size}
 use Rattle.descriptions.proofs.Parts.{descriptor-out, descriptor-refused}
 
 -- ---- Free bytes, and an image that does not depend on them
 
 -- r reads n bytes, whatever they are, and the image of what it reads is v
 record Passes {A B : Type 0} (g : A → B) (r : Reader A) (n : ℕ) (v : B) : Type 0 where
-  there : (s : List ℕ) (at : ℕ) → at + n ≤ length s → mapped g (readAt r s at) ≡ ok v (at + n)
-  cut : (s : List ℕ) (at : ℕ) → at ≤ length s → length s < at + n → mapped g (readAt r s at) ≡ short
+  there : (s : List ℕ) (at : ℕ) → at + n ≤ length s → mapped g (read_at r s at) ≡ ok v (at + n)
+  cut : (s : List ℕ) (at : ℕ) → at ≤ length s → length s < at + n → mapped g (read_at r s at) ≡ short
 
 passes-done : {A B : Type 0} (g : A → B) (x : A) → Passes g (done x) 0 (g x)
 unfolding mapped
@@ -43,8 +43,8 @@ passes-done g x = record {
 }
 
 module _ {A B C : Type 0} (g : B → C) (r : Reader A) (k : A → Reader B) (n m : ℕ) (v : C) (f : Jumps r n) (p : (u : A) → Passes g (k u) m v) where
-  first : (s : List ℕ) (at : ℕ) → at + n ≤ length s → (u : A) × (readAt r s at ≡ ok u (at + n))
-  first s at h = told-done (readAt r s at) (sym (f s at (omega arith) ∙ ends_there s at n h))
+  first : (s : List ℕ) (at : ℕ) → at + n ≤ length s → (u : A) × (read_at r s at ≡ ok u (at + n))
+  first s at h = told-done (read_at r s at) (sym (f s at (omega arith) ∙ ends_there s at n h))
 
   passes-bind : Passes g (bind r k) (n + m) v
   unfolding mapped
@@ -55,7 +55,7 @@ module _ {A B C : Type 0} (g : B → C) (r : Reader A) (k : A → Reader B) (n m
     cut = λ s at h q.
         by_cases
         (dec_lt (length s) (at + n))
-        (λ e. ap (mapped g) (at-bind-failed r k s at Short (told-failed (readAt r s at) (sym (f s at h ∙ ends-short s at n e)))))
+        (λ e. ap (mapped g) (at-bind-failed r k s at Short (told-failed (read_at r s at) (sym (f s at h ∙ ends-short s at n e)))))
         (λ e.
         let x = first s at (omega arith) in
         ap (mapped g) (at-bind-ok r k s at x.1) ∙ (p x.0).cut s (at + n) (omega arith) (omega arith));
@@ -78,12 +78,12 @@ attribute-jumps w signed false = jumps-done _
 
 -- what is measured of a descriptor: whether the channel is included, and whether it is stored
 abbrev pub flags : Descriptor → Bool × Bool
-flags d = (d.included, isStored d)
+flags d = (d.included, is_stored d)
 
 -- what its byte announces
 module _ (w channel b : ℕ) where
-  announced-passes : Passes flags (announced w channel b) (attributesSize w b) (true, not (bit 3 b))
-  unfolding attributesSize
+  announced-passes : Passes flags (announced w channel b) (attributes_size w b) (true, not (bit 3 b))
+  unfolding attributes_size
   announced-passes =
       passes-bind flags _ _ _ _ _ (attribute-jumps 2 false (bit 8 b)) (λ scaling.
       passes-bind flags _ _ _ _ _ (attribute-jumps w (signed_of channel) (bit 7 b)) (λ minimum.
@@ -92,52 +92,52 @@ module _ (w channel b : ℕ) where
       passes-bind flags _ _ _ _ _ (attribute-jumps w false (bit 4 b)) (λ deviation. passes-done flags _)))))
 
 module _ (w channel : ℕ) (s : List ℕ) (at : ℕ) (h : at < length s) (q : reserved.holds (get_or s at 0) ≡ true) where
-  past-byte : readAt (descriptor w channel) s at ≡ readAt (announced w channel (get_or s at 0)) s (at + 1)
+  past-byte : read_at (descriptor w channel) s at ≡ read_at (announced w channel (get_or s at 0)) s (at + 1)
   unfolding descriptor one bind
   past-byte = at-pass reserved _ s at h q
 
-  pub descriptor-over : at + descriptorSize w (get_or s at 0) ≤ length s
-      → mapped flags (readAt (descriptor w channel) s at) ≡ ok (true, not (bit 3 (get_or s at 0))) (at + descriptorSize w (get_or s at 0))
-  unfolding descriptorSize
+  pub descriptor-over : at + descriptor_size w (get_or s at 0) ≤ length s
+      → mapped flags (read_at (descriptor w channel) s at) ≡ ok (true, not (bit 3 (get_or s at 0))) (at + descriptor_size w (get_or s at 0))
+  unfolding descriptor_size
   descriptor-over e =
-      ap (mapped flags) past-byte ∙ (announced-passes w channel (get_or s at 0)).there s (at + 1) (omega arith) ∙ ap (ok (true, not (bit 3 (get_or s at 0)))) (add_assoc at 1 (attributesSize w (get_or s at 0)))
+      ap (mapped flags) past-byte ∙ (announced-passes w channel (get_or s at 0)).there s (at + 1) (omega arith) ∙ ap (ok (true, not (bit 3 (get_or s at 0)))) (add_assoc at 1 (attributes_size w (get_or s at 0)))
 
-  pub descriptor-cut : length s < at + descriptorSize w (get_or s at 0) → mapped flags (readAt (descriptor w channel) s at) ≡ short
-  unfolding descriptorSize
+  pub descriptor-cut : length s < at + descriptor_size w (get_or s at 0) → mapped flags (read_at (descriptor w channel) s at) ≡ short
+  unfolding descriptor_size
   descriptor-cut e = ap (mapped flags) past-byte ∙ (announced-passes w channel (get_or s at 0)).cut s (at + 1) (omega arith) (omega arith)
 
 -- a descriptor whose end is told is there: its byte is admitted, and so are all the bytes that it announces
 module _ (w channel : ℕ) (s : List ℕ) (at : ℕ) where
   pub record Whole (n : ℕ) : Type 0 where
     pub admitted : reserved.holds (get_or s at 0) ≡ true
-    pub there : at + descriptorSize w (get_or s at 0) ≤ length s
-    pub end : n ≡ at + descriptorSize w (get_or s at 0)
+    pub there : at + descriptor_size w (get_or s at 0) ≤ length s
+    pub end : n ≡ at + descriptor_size w (get_or s at 0)
 
-  byte-there : {n : ℕ} → Done n ≡ told (readAt (descriptor w channel) s at) → at < length s
+  byte-there : {n : ℕ} → Done n ≡ told (read_at (descriptor w channel) s at) → at < length s
   unfolding told
   byte-there e = by_cases (dec_lt at (length s)) (λ h. h) (λ h. let z = e ∙ ap told (descriptor-out w channel s at (omega arith)) in impossible (cc))
 
-  byte-admitted : {n : ℕ} → Done n ≡ told (readAt (descriptor w channel) s at) → (t : Bool) → reserved.holds (get_or s at 0) ≡ t → reserved.holds (get_or s at 0) ≡ true
+  byte-admitted : {n : ℕ} → Done n ≡ told (read_at (descriptor w channel) s at) → (t : Bool) → reserved.holds (get_or s at 0) ≡ t → reserved.holds (get_or s at 0) ≡ true
   unfolding told
   byte-admitted e true q = q
   byte-admitted e false q = let z = e ∙ ap told (descriptor-refused w channel s at (byte-there e) q) in impossible (cc)
 
-  pub descriptor-whole : {n : ℕ} → Done n ≡ told (readAt (descriptor w channel) s at) → Whole n
+  pub descriptor-whole : {n : ℕ} → Done n ≡ told (read_at (descriptor w channel) s at) → Whole n
   unfolding told
   descriptor-whole {n} e =
       let h = byte-there e in
       let q = byte-admitted e (reserved.holds (get_or s at 0)) refl in
-      let f : Done n ≡ told (mapped flags (readAt (descriptor w channel) s at)) = e ∙ sym (told-mapped flags (readAt (descriptor w channel) s at)) in
+      let f : Done n ≡ told (mapped flags (read_at (descriptor w channel) s at)) = e ∙ sym (told-mapped flags (read_at (descriptor w channel) s at)) in
       by_cases
-      (dec_lt (length s) (at + descriptorSize w (get_or s at 0)))
+      (dec_lt (length s) (at + descriptor_size w (get_or s at 0)))
       (λ g. let z = f ∙ ap told (descriptor-cut w channel s at h q g) in impossible (cc))
       (λ g.
-      let i : at + descriptorSize w (get_or s at 0) ≤ length s = omega arith in
+      let i : at + descriptor_size w (get_or s at 0) ≤ length s = omega arith in
       let z = f ∙ ap told (descriptor-over w channel s at h q i) in
       record { admitted = q; there = i; end = cc })
 
   -- a descriptor that was read is of an included channel, and is stored as its byte has it
-  pub descriptor-flags : {d : Descriptor} {n : ℕ} → readAt (descriptor w channel) s at ≡ ok d n → (d.included ≡ true) × (isStored d ≡ not (bit 3 (get_or s at 0)))
+  pub descriptor-flags : {d : Descriptor} {n : ℕ} → read_at (descriptor w channel) s at ≡ ok d n → (d.included ≡ true) × (is_stored d ≡ not (bit 3 (get_or s at 0)))
   unfolding told mapped
   descriptor-flags {d} {n} e =
       let x = descriptor-whole (sym (ap told e)) in
@@ -166,16 +166,16 @@ sum-compact : (p a c d e : ℕ) → p < 2 → a < 2 → c < 2 → d < 2 → e < 
 sum-compact p a c d e h i j k l = (omega arith, omega arith)
 
 module _ (b : ℕ) where
-  pub size-full : (1 + b / 128 % 2 * 2 + (b / 64 % 2 + b / 32 % 2 + b / 16 % 2 + b / 8 % 2) * 2 ≡ descriptorSize 2 b)
+  pub size-full : (1 + b / 128 % 2 * 2 + (b / 64 % 2 + b / 32 % 2 + b / 16 % 2 + b / 8 % 2) * 2 ≡ descriptor_size 2 b)
       × (1 + b / 128 % 2 * 2 + (b / 64 % 2 + b / 32 % 2 + b / 16 % 2 + b / 8 % 2) * 2 < 12)
-  unfolding descriptorSize attributesSize
+  unfolding descriptor_size attributes_size
   size-full =
       rw (flag-bytes (b / 128) 2, flag-bytes (b / 64) 2, flag-bytes (b / 32) 2, flag-bytes (b / 16) 2, flag-bytes (b / 8) 2)
       (sum-full _ _ _ _ _ (bit_below (b / 128)) (bit_below (b / 64)) (bit_below (b / 32)) (bit_below (b / 16)) (bit_below (b / 8)))
 
-  pub size-compact : (1 + b / 128 % 2 * 2 + (b / 64 % 2 + b / 32 % 2 + b / 16 % 2 + b / 8 % 2) ≡ descriptorSize 1 b)
+  pub size-compact : (1 + b / 128 % 2 * 2 + (b / 64 % 2 + b / 32 % 2 + b / 16 % 2 + b / 8 % 2) ≡ descriptor_size 1 b)
       × (1 + b / 128 % 2 * 2 + (b / 64 % 2 + b / 32 % 2 + b / 16 % 2 + b / 8 % 2) < 12)
-  unfolding descriptorSize attributesSize
+  unfolding descriptor_size attributes_size
   size-compact =
       rw (flag-bytes (b / 128) 2, flag-bytes (b / 64) 1, flag-bytes (b / 32) 1, flag-bytes (b / 16) 1, flag-bytes (b / 8) 1)
       (sum-compact _ _ _ _ _ (bit_below (b / 128)) (bit_below (b / 64)) (bit_below (b / 32)) (bit_below (b / 16)) (bit_below (b / 8)))

@@ -10,30 +10,30 @@ use native.Mathlib.Omega.{arith}
 use lib.IntN.{ℤ}
 use lib.ListN.{length, get_or}
 use borrow.Author.Tests.{eq-eqb, ne_eqb}
-use Rattle.formats.specs.Reader.{ok, short, bad, readAt, bind, map, one, any}
+use Rattle.formats.specs.Reader.{ok, short, bad, read_at, bind, map, one, any}
 use Rattle.formats.specs.Compose.{at_done, at-short, at-pass, at-fail, at-bind-ok}
 use Rattle.formats.specs.Number.{number}
 use Rattle.formats.specs.Binary.{bit}
 use Rattle.channels.specs.Channel.{signed_of}
 use Rattle.channels.specs.Stored.{value_of}
 use Rattle.channels.specs.declared.Descriptor.{Descriptor}
-use Rattle.channels.specs.Descriptors.{noAttribute}
+use Rattle.channels.specs.Descriptors.{no_attribute}
 use Rattle.channels.specs.declared.Format.{Format}
-use Rattle.descriptions.specs.Description.{hasXY, reserved, attribute, descriptor, description}
-use Rattle.descriptions.specs.Read.{channelsFrom}
+use Rattle.descriptions.specs.Description.{has_xy, reserved, attribute, descriptor, description}
+use Rattle.descriptions.specs.Read.{channels_from}
 use Rattle.descriptions.specs.declared.AttributeRead.{AttributeRead}
 
 -- ---- An attribute
 
 module _ (w : ℕ) (signed flag : Bool) (s : List ℕ) (at : ℕ) where
-  pub attribute-given : flag ≡ true → {n m next : ℕ} {v : ℤ} → v ≡ value_of w signed n → readAt (number w) s at ≡ ok n m → m ≡ next
-      → readAt (attribute w signed flag) s at ≡ ok (record { given = true; number = v }) next
+  pub attribute-given : flag ≡ true → {n m next : ℕ} {v : ℤ} → v ≡ value_of w signed n → read_at (number w) s at ≡ ok n m → m ≡ next
+      → read_at (attribute w signed flag) s at ≡ ok (record { given = true; number = v }) next
   unfolding attribute
   attribute-given e g f z = rw (e, g, ← z) (at-bind-ok (number w) _ s at f ∙ at_done _ s _)
 
-  pub attribute-none : flag ≡ false → readAt (attribute w signed flag) s at ≡ ok noAttribute at
+  pub attribute-none : flag ≡ false → read_at (attribute w signed flag) s at ≡ ok no_attribute at
   unfolding attribute
-  attribute-none e = rw e (at_done noAttribute s at)
+  attribute-none e = rw e (at_done no_attribute s at)
 
 -- ---- A descriptor
 
@@ -57,21 +57,21 @@ pub low_clear : (b : ℕ) → (b % 2 ≡ 1 → ⊥) → reserved.holds b ≡ tru
 low_clear b h = rw (ne_eqb (b / 1 % 2) 1 (λ e. h (omega arith)))
 
 module _ (w channel : ℕ) (s : List ℕ) (at : ℕ) where
-  pub descriptor-out : length s ≤ at → readAt (descriptor w channel) s at ≡ short
+  pub descriptor-out : length s ≤ at → read_at (descriptor w channel) s at ≡ short
   unfolding descriptor one bind
   descriptor-out h = at-short reserved _ s at h
 
-  pub descriptor-refused : at < length s → reserved.holds (get_or s at 0) ≡ false → readAt (descriptor w channel) s at ≡ bad 5 at
+  pub descriptor-refused : at < length s → reserved.holds (get_or s at 0) ≡ false → read_at (descriptor w channel) s at ≡ bad 5 at
   unfolding descriptor one bind
   descriptor-refused h q = at-fail reserved _ s at h q
 
-  pub descriptor-bad : at < length s → get_or s at 0 % 2 ≡ 1 → readAt (descriptor w channel) s at ≡ bad 5 at
+  pub descriptor-bad : at < length s → get_or s at 0 % 2 ≡ 1 → read_at (descriptor w channel) s at ≡ bad 5 at
   descriptor-bad h q = descriptor-refused h (low-set (get_or s at 0) q)
 
   -- the attributes behind the descriptor's byte, one after another
   module _ (signed : Bool) (sign : signed ≡ signed_of channel) (scaling minimum maximum mean deviation : AttributeRead) where
     abbrev Reads : AttributeRead → (w : ℕ) → (signed : Bool) → (k : ℕ) → (from : ℕ) → Type 0
-    Reads t w signed k from = readAt (attribute w signed (bit k (get_or s at 0))) s from ≡ ok t.attribute t.next
+    Reads t w signed k from = read_at (attribute w signed (bit k (get_or s at 0))) s from ≡ ok t.attribute t.next
 
     pub attributes-read : at < length s → reserved.holds (get_or s at 0) ≡ true
         → Reads scaling 2 false 8 (at + 1)
@@ -80,7 +80,7 @@ module _ (w channel : ℕ) (s : List ℕ) (at : ℕ) where
         → Reads mean w signed 5 maximum.next
         → Reads deviation w false 4 mean.next
         → {end : ℕ} → deviation.next ≡ end
-        → readAt (descriptor w channel) s at ≡ ok (made (get_or s at 0) scaling minimum maximum mean deviation) end
+        → read_at (descriptor w channel) s at ≡ ok (made (get_or s at 0) scaling minimum maximum mean deviation) end
     unfolding descriptor one bind
     attributes-read h q e f g i j z =
         at-pass reserved _ s at h q
@@ -94,10 +94,10 @@ module _ (w channel : ℕ) (s : List ℕ) (at : ℕ) where
 
 -- ---- The inclusion bytes
 
-has-xy : (b : ℕ) → 0xC0 ≤ b → b < 256 → hasXY.holds b ≡ true
+has-xy : (b : ℕ) → 0xC0 ≤ b → b < 256 → has_xy.holds b ≡ true
 has-xy b h g = rw (eq-eqb (b / 128 % 2) 1 (omega arith), eq-eqb (b / 64 % 2) 1 (omega arith))
 
-lacks-xy : (b : ℕ) → b < 0xC0 → hasXY.holds b ≡ false
+lacks-xy : (b : ℕ) → b < 0xC0 → has_xy.holds b ≡ false
 lacks-xy b h =
     by_cases
     (dec_lt b 128)
@@ -105,23 +105,23 @@ lacks-xy b h =
     (λ q. rw (eq-eqb (b / 128 % 2) 1 (omega arith), ne_eqb (b / 64 % 2) 1 (λ e. omega arith)))
 
 module _ (format : Format) (s : List ℕ) (start : ℕ) where
-  pub description-out : length s ≤ start → readAt (description format) s start ≡ short
+  pub description-out : length s ≤ start → read_at (description format) s start ≡ short
   unfolding description one bind
-  description-out h = at-short hasXY _ s start h
+  description-out h = at-short has_xy _ s start h
 
-  pub description-bad : start < length s → get_or s start 0 < 0xC0 → readAt (description format) s start ≡ bad 4 start
+  pub description-bad : start < length s → get_or s start 0 < 0xC0 → read_at (description format) s start ≡ bad 4 start
   unfolding description one bind
-  description-bad h q = at-fail hasXY _ s start h (lacks-xy (get_or s start 0) q)
+  description-bad h q = at-fail has_xy _ s start h (lacks-xy (get_or s start 0) q)
 
   module _ (h : start < length s) (low : 0xC0 ≤ get_or s start 0) (high : get_or s start 0 < 256) where
-    pub description-cut : length s ≤ start + 1 → readAt (description format) s start ≡ short
+    pub description-cut : length s ≤ start + 1 → read_at (description format) s start ≡ short
     unfolding description one bind
-    description-cut q = at-pass hasXY _ s start h (has-xy (get_or s start 0) low high) ∙ at-short any _ s (start + 1) q
+    description-cut q = at-pass has_xy _ s start h (has-xy (get_or s start 0) low high) ∙ at-short any _ s (start + 1) q
 
     pub description-channels : start + 1 < length s
-        → readAt (description format) s start ≡ readAt (channelsFrom format (get_or s start 0 * 256 + get_or s (start + 1) 0)) s (start + 2)
-    unfolding description one bind channelsFrom map
+        → read_at (description format) s start ≡ read_at (channels_from format (get_or s start 0 * 256 + get_or s (start + 1) 0)) s (start + 2)
+    unfolding description one bind channels_from map
     description-channels q =
-        at-pass hasXY _ s start h (has-xy (get_or s start 0) low high)
+        at-pass has_xy _ s start h (has-xy (get_or s start 0) low high)
         ∙ at-pass any _ s (start + 1) q refl
-        ∙ ap (readAt (channelsFrom format (get_or s start 0 * 256 + get_or s (start + 1) 0)) s) {x = start + 1 + 1} {y = start + 2} (omega arith)
+        ∙ ap (read_at (channels_from format (get_or s start 0 * 256 + get_or s (start + 1) 0)) s) {x = start + 1 + 1} {y = start + 2} (omega arith)

@@ -9,7 +9,7 @@ use native.Mathlib.Numerals.{add-one}
 use native.Mathlib.Omega.{arith}
 use lib.ListN.{length, get_or, set, take, drop, replicate, length-set}
 use lib.Seq.{get_or-set_other, take-suc, take-suc-set}
-use Rattle.formats.specs.Reader.{Reader, Answer, ok, mapped, readAt, each}
+use Rattle.formats.specs.Reader.{Reader, Answer, ok, mapped, read_at, each}
 use Rattle.formats.specs.Compose.{at_done, at_map}
 use Rattle.formats.specs.Gathered.{Gathered, gathered_none, gathered-more, gathered-failed, gathered-all}
 use Rattle.formats.specs.Told.{told, failed, mapped-failed, told-failed}
@@ -21,9 +21,9 @@ use Rattle.channels.specs.Channel.{channels, width_of, nth-channel}
 use Rattle.channels.specs.declared.Descriptor.{Descriptor}
 use Rattle.channels.specs.declared.Description.{Description}
 use Rattle.channels.specs.declared.Format.{Format}
-use Rattle.channels.specs.Descriptors.{absent, isStored}
-use Rattle.descriptions.specs.Description.{descriptor, includes, channelOf}
-use Rattle.descriptions.specs.Read.{described, ended, behind, channelsFrom}
+use Rattle.channels.specs.Descriptors.{absent, is_stored}
+use Rattle.descriptions.specs.Description.{descriptor, includes, channel_of}
+use Rattle.descriptions.specs.Read.{described, ended, behind, channels_from}
 
 -- ---- Lists
 
@@ -39,7 +39,7 @@ take-kept a i d v h e = rw (add-one i) (take-suc-set a i v h ∙ rw (← e) (sym
 
 gathered-kept : {I A : Type 0} (l : List I) (f : I → Reader A) (s : List ℕ) (start : ℕ) (a : List A) (i at : ℕ) (d v : A) → i < length a → get_or a i d ≡ v
     → Gathered l f s start (set a i v) (i + 1) at → Gathered l f s start a (i + 1) at
-gathered-kept l f s start a i at d v h e g = g ∙ ap (λ p. mapped (λ vs. p ++ vs) (readAt (each (drop (i + 1) l) f) s at)) (take-kept a i d v h e)
+gathered-kept l f s start a i at d v h e g = g ∙ ap (λ p. mapped (λ vs. p ++ vs) (read_at (each (drop (i + 1) l) f) s at)) (take-kept a i d v h e)
 
 -- no channel from one on has been set
 abbrev Unset : List Descriptor → ℕ → Type 0
@@ -69,15 +69,15 @@ module _ (format : Format) (inclusion : ℕ) (s : List ℕ) (start : ℕ) where
   pub record Gone (ds : List Descriptor) (included stored : List Bool) (channel at : ℕ) : Type 0 where
     pub sixteen : length ds ≡ 16
     pub unset : Unset ds channel
-    pub gathered : Gathered channels (channelOf w inclusion) s start ds channel at
+    pub gathered : Gathered channels (channel_of w inclusion) s start ds channel at
     pub included-same : included ≡ list.map (λ c. c.included) ds
-    pub stored_same : stored ≡ list.map isStored ds
+    pub stored_same : stored ≡ list.map is_stored ds
 
   pub gone-none : Gone (replicate 16 absent) (replicate 16 false) (replicate 16 false) 0 start
   gone-none = record {
     sixteen = refl;
     unset = unset-all 16 0;
-    gathered = gathered_none channels (channelOf w inclusion) s start (replicate 16 absent);
+    gathered = gathered_none channels (channel_of w inclusion) s start (replicate 16 absent);
     included-same = refl;
     stored_same = refl;
   }
@@ -85,12 +85,12 @@ module _ (format : Format) (inclusion : ℕ) (s : List ℕ) (start : ℕ) where
   module _ (ds : List Descriptor) (included stored : List Bool) (channel at : ℕ) (g : Gone ds included stored channel at) where
     module _ (h : channel < 16) where
       -- a channel has its descriptor where it is included, else no bytes
-      with-descriptor : includes inclusion channel ≡ true → readAt (channelOf w inclusion (get_or channels channel 0)) s at ≡ readAt (descriptor w channel) s at
-      unfolding channelOf
+      with-descriptor : includes inclusion channel ≡ true → read_at (channel_of w inclusion (get_or channels channel 0)) s at ≡ read_at (descriptor w channel) s at
+      unfolding channel_of
       with-descriptor e = rw (nth-channel channel h, e)
 
-      left_out : includes inclusion channel ≡ false → readAt (channelOf w inclusion (get_or channels channel 0)) s at ≡ ok absent at
-      unfolding channelOf
+      left_out : includes inclusion channel ≡ false → read_at (channel_of w inclusion (get_or channels channel 0)) s at ≡ ok absent at
+      unfolding channel_of
       left_out e = rw (nth-channel channel h, e) (at_done absent s at)
 
       pub gone-absent : includes inclusion channel ≡ false → Gone ds included stored (channel + 1) at
@@ -104,28 +104,28 @@ module _ (format : Format) (inclusion : ℕ) (s : List ℕ) (start : ℕ) where
         stored_same = g.stored_same;
       }
 
-      pub gone-on : includes inclusion channel ≡ true → {d : Descriptor} {n : ℕ} {a b : Bool} → readAt (descriptor w channel) s at ≡ ok d n → a ≡ d.included → b ≡ isStored d
+      pub gone-on : includes inclusion channel ≡ true → {d : Descriptor} {n : ℕ} {a b : Bool} → read_at (descriptor w channel) s at ≡ ok d n → a ≡ d.included → b ≡ is_stored d
           → Gone (set ds channel d) (set included channel a) (set stored channel b) (channel + 1) n
       gone-on e {d} f p q = record {
         sixteen = length-set ds channel d ∙ g.sixteen;
         unset = λ i q. get_or-set_other ds channel i d absent (λ z. omega arith) ∙ g.unset i (omega arith);
         gathered = gathered-more channels _ s start 0 ds channel at h g.gathered (omega (arith, g.sixteen)) (with-descriptor e ∙ f);
         included-same = rw (p, g.included-same) (map-set (λ c. c.included) ds channel d);
-        stored_same = rw (q, g.stored_same) (map-set isStored ds channel d);
+        stored_same = rw (q, g.stored_same) (map-set is_stored ds channel d);
       }
 
       -- where a descriptor fails, the whole does
-      pub gone-failed : includes inclusion channel ≡ true → {o : Outcome} {f : Failure} → o ≡ Failed f → o ≡ told (readAt (descriptor w channel) s at)
-          → ended format o ≡ described format (readAt (channelsFrom format inclusion) s start)
-      unfolding channelsFrom
+      pub gone-failed : includes inclusion channel ≡ true → {o : Outcome} {f : Failure} → o ≡ Failed f → o ≡ told (read_at (descriptor w channel) s at)
+          → ended format o ≡ described format (read_at (channels_from format inclusion) s start)
+      unfolding channels_from
       gone-failed e {f = f} q z =
           failed-described format _ f q
           (at_map _ _ s start
           ∙ ap (mapped _) (gathered-failed channels _ s start 0 ds channel at h g.gathered f (with-descriptor e ∙ told-failed _ (sym q ∙ z)))
           ∙ mapped-failed _ f)
 
-    pub gone-all : 16 ≤ channel → record { outcome = Done at; included = included; stored = stored; description = record { channels = ds; mark = format } } ≡ described format (readAt (channelsFrom format inclusion) s start)
-    unfolding channelsFrom mapped described
+    pub gone-all : 16 ≤ channel → record { outcome = Done at; included = included; stored = stored; description = record { channels = ds; mark = format } } ≡ described format (read_at (channels_from format inclusion) s start)
+    unfolding channels_from mapped described
     gone-all h =
         rw (g.included-same, g.stored_same)
         (sym (ap (described format) (at_map _ _ s start ∙ ap (mapped _) (gathered-all channels _ s start ds channel at h (omega (arith, g.sixteen)) g.gathered))))

@@ -14,21 +14,21 @@ use Rattle.formats.specs.Reader.{Reader, done, any}
 use Rattle.formats.specs.Number.{number, writes-number, two_digits}
 use Rattle.formats.specs.Writes.{Writes, written_read, Each, writes_as, writes-map, writes-done, writes_one, writes-each, writes_line}
 use Rattle.channels.specs.Channel.{channels, signed_of, width_of, from}
-use Rattle.channels.specs.Stored.{value_of, storedOf, fits, stored-value, value-fits, stored-below, value-stored}
+use Rattle.channels.specs.Stored.{value_of, stored_of, fits, stored-value, value-fits, stored-below, value-stored}
 use Rattle.channels.specs.declared.Attribute.{Attribute}
 use Rattle.channels.specs.declared.Descriptor.{Descriptor}
 use Rattle.channels.specs.declared.Description.{Description}
 use Rattle.channels.specs.declared.Format.{Format}
 use Rattle.formats.specs.Binary.{bit, binary, bits, binary-bits, bits-binary, binary-below}
-use Rattle.channels.specs.Descriptors.{noAttribute, absent}
+use Rattle.channels.specs.Descriptors.{no_attribute, absent}
 use Rattle.descriptions.specs.Marks.{ReadsTidy}
-use Rattle.descriptions.specs.Description.{hasXY, reserved, attribute, descriptor, includes, channelOf, description, encodeAttribute, descriptorByte, encodeDescriptor, encodeChannel, encodeDescription, includesXY, tidyAttribute, flagless, tidyDescriptor, fitsAttribute, fitsDescriptor, every, neat, all_fit, tidy, Valid}
+use Rattle.descriptions.specs.Description.{has_xy, reserved, attribute, descriptor, includes, channel_of, description, encode_attribute, descriptor_byte, encode_descriptor, encode_channel, encode_description, includes_xy, tidy_attribute, flagless, tidy_descriptor, fits_attribute, fits_descriptor, every, neat, all_fit, tidy, Valid}
 
 -- ---- An attribute
 
 -- given as its flag says, tidy, and in its range
 abbrev Good : (w : ℕ) (signed flag : Bool) → Attribute → Type 0
-Good w signed flag a = (a.given ≡ flag) × T (tidyAttribute a) × T (fitsAttribute w signed a)
+Good w signed flag a = (a.given ≡ flag) × T (tidy_attribute a) × T (fits_attribute w signed a)
 
 abbrev made : Bool → ℤ → Attribute
 made given number = record { given = given; number = number }
@@ -37,11 +37,11 @@ zero_is : (z : ℤ) → T (eqb (nat_abs z) 0) → z ≡ pos 0
 zero_is (pos n) h = ap pos (eqb→eq n 0 h)
 zero_is (negsuc n) h = absurd (omega (arith, eqb→eq (suc n) 0 h))
 
-writes-attribute : (w : ℕ) (signed flag : Bool) → Writes (attribute w signed flag) (encodeAttribute w signed) (Good w signed flag)
-unfolding attribute encodeAttribute tidyAttribute fitsAttribute Rattle.formats.specs.Reader.map
+writes-attribute : (w : ℕ) (signed flag : Bool) → Writes (attribute w signed flag) (encode_attribute w signed) (Good w signed flag)
+unfolding attribute encode_attribute tidy_attribute fits_attribute Rattle.formats.specs.Reader.map
 writes-attribute w signed true =
     writes_as
-    (writes-map (writes-number w) (λ n. made true (value_of w signed n)) (λ a. storedOf w signed a.number) (λ n h. stored-value w signed n))
+    (writes-map (writes-number w) (λ n. made true (value_of w signed n)) (λ a. stored_of w signed a.number) (λ n h. stored-value w signed n))
     (λ a h.
     let g : a.given ≡ true = sym (ap (λ x. x.given) h.1) in
     let f : T (fits w signed a.number) = subst (λ z. T (fits w signed z)) (ap (λ x. x.number) h.1) (value-fits w signed _ h.0) in
@@ -51,7 +51,7 @@ writes-attribute w signed true =
     (stored-below w signed a.number f, ap₂ made (sym h.0) (value-stored w signed a.number f)))
 writes-attribute w signed false =
     writes_as
-    (writes-done noAttribute)
+    (writes-done no_attribute)
     (λ a e. rw (← e) ((refl, tt, tt), refl))
     (λ a h. ap₂ made (sym h.0) (sym (zero_is a.number (rw h.0 at h.1))))
 
@@ -85,31 +85,31 @@ module _ (p q r : Attribute → Bool) (d : Descriptor) where
   joined h = join (p d.scaling) (q d.minimum) (q d.maximum) (q d.mean) (r d.deviation) h
 
 abbrev Tidies : Descriptor → Type 0
-Tidies d = Five tidyAttribute tidyAttribute tidyAttribute d
+Tidies d = Five tidy_attribute tidy_attribute tidy_attribute d
 
-tidies : (d : Descriptor) → T (tidyDescriptor d) → Tidies d
-unfolding tidyDescriptor
-tidies d h = apart tidyAttribute tidyAttribute tidyAttribute d (and_r (d.included || flagless d) _ h)
+tidies : (d : Descriptor) → T (tidy_descriptor d) → Tidies d
+unfolding tidy_descriptor
+tidies d h = apart tidy_attribute tidy_attribute tidy_attribute d (and_r (d.included || flagless d) _ h)
 
-is-tidy : (d : Descriptor) → d.included ≡ true → Tidies d → T (tidyDescriptor d)
-unfolding tidyDescriptor
-is-tidy d e h = rw e (joined tidyAttribute tidyAttribute tidyAttribute d h)
+is-tidy : (d : Descriptor) → d.included ≡ true → Tidies d → T (tidy_descriptor d)
+unfolding tidy_descriptor
+is-tidy d e h = rw e (joined tidy_attribute tidy_attribute tidy_attribute d h)
 
 flags : Descriptor → List Bool
 flags d =
     d.scaling.given ∷ d.minimum.given ∷ d.maximum.given ∷ d.mean.given ∷ d.deviation.given ∷ d.constant ∷ d.detrended ∷ false ∷ []
 
 -- the byte's bits are the flags, and they make the byte
-byte-bits : (d : Descriptor) → bits 8 (descriptorByte d) ≡ flags d
-unfolding descriptorByte flags
+byte-bits : (d : Descriptor) → bits 8 (descriptor_byte d) ≡ flags d
+unfolding descriptor_byte flags
 byte-bits d = bits-binary (flags d)
 
-bits-byte : (d : Descriptor) (b : ℕ) → b < 256 → flags d ≡ bits 8 b → descriptorByte d ≡ b
-unfolding descriptorByte flags
+bits-byte : (d : Descriptor) (b : ℕ) → b < 256 → flags d ≡ bits 8 b → descriptor_byte d ≡ b
+unfolding descriptor_byte flags
 bits-byte d b h e = ap binary e ∙ binary-bits 8 b h
 
-below : (d : Descriptor) → descriptorByte d < 256
-unfolding descriptorByte flags
+below : (d : Descriptor) → descriptor_byte d < 256
+unfolding descriptor_byte flags
 below d = binary-below (flags d)
 
 -- the flags, one by one
@@ -132,22 +132,22 @@ unfolding flags bits
 flags-are b d e = record { scaling = cc; minimum = cc; maximum = cc; mean = cc; deviation = cc; constant = cc; detrended = cc; low = cc }
 
 module _ (w i : ℕ) where
-  fitting : (d : Descriptor) → T (fitsDescriptor w i d) → Five (fitsAttribute 2 false) (fitsAttribute w (signed_of i)) (fitsAttribute w false) d
-  unfolding fitsDescriptor
-  fitting d h = apart (fitsAttribute 2 false) (fitsAttribute w (signed_of i)) (fitsAttribute w false) d h
+  fitting : (d : Descriptor) → T (fits_descriptor w i d) → Five (fits_attribute 2 false) (fits_attribute w (signed_of i)) (fits_attribute w false) d
+  unfolding fits_descriptor
+  fitting d h = apart (fits_attribute 2 false) (fits_attribute w (signed_of i)) (fits_attribute w false) d h
 
-  is-fitting : (d : Descriptor) → Five (fitsAttribute 2 false) (fitsAttribute w (signed_of i)) (fitsAttribute w false) d → T (fitsDescriptor w i d)
-  unfolding fitsDescriptor
-  is-fitting d h = joined (fitsAttribute 2 false) (fitsAttribute w (signed_of i)) (fitsAttribute w false) d h
+  is-fitting : (d : Descriptor) → Five (fits_attribute 2 false) (fits_attribute w (signed_of i)) (fits_attribute w false) d → T (fits_descriptor w i d)
+  unfolding fits_descriptor
+  is-fitting d h = joined (fits_attribute 2 false) (fits_attribute w (signed_of i)) (fits_attribute w false) d h
 
   abbrev GoodDescriptor : Descriptor → Type 0
-  GoodDescriptor d = (d.included ≡ true) × T (tidyDescriptor d) × T (fitsDescriptor w i d)
+  GoodDescriptor d = (d.included ≡ true) × T (tidy_descriptor d) × T (fits_descriptor w i d)
 
-  writes-descriptor : Writes (descriptor w i) (encodeDescriptor w i) GoodDescriptor
-  unfolding descriptor encodeDescriptor
+  writes-descriptor : Writes (descriptor w i) (encode_descriptor w i) GoodDescriptor
+  unfolding descriptor encode_descriptor
   writes-descriptor =
       writes_as
-      (writes_line descriptorByte (writes_one reserved) (λ b h.
+      (writes_line descriptor_byte (writes_one reserved) (λ b h.
       writes_line (λ d. d.scaling) (writes-attribute 2 false (bit 8 b)) (λ scaling h.
       writes_line (λ d. d.minimum) (writes-attribute w (signed_of i) (bit 7 b)) (λ minimum h.
       writes_line (λ d. d.maximum) (writes-attribute w (signed_of i) (bit 6 b)) (λ maximum h.
@@ -183,7 +183,7 @@ module _ (w i : ℕ) where
       (λ d h.
       let t = tidies d h.1 in
       let f = fitting d h.2 in
-      let b = flags-are (descriptorByte d) d (byte-bits d) in (
+      let b = flags-are (descriptor_byte d) d (byte-bits d) in (
         (below d, rw b.low),
         (
           (b.scaling, t.0, f.0),
@@ -217,15 +217,15 @@ none_of false true c d e f g h = absurd h
 none_of true b c d e f g h = absurd h
 
 -- a tidy attribute that is not given, and a tidy channel that is not included
-not-given : (a : Attribute) → a.given ≡ false → T (tidyAttribute a) → noAttribute ≡ a
-unfolding tidyAttribute
+not-given : (a : Attribute) → a.given ≡ false → T (tidy_attribute a) → no_attribute ≡ a
+unfolding tidy_attribute
 not-given a e h = ap₂ made (sym e) (sym (zero_is a.number (rw e at h)))
 
-silent : (d : Descriptor) → d.included ≡ false → T (tidyDescriptor d) → T (flagless d)
-unfolding tidyDescriptor flagless
+silent : (d : Descriptor) → d.included ≡ false → T (tidy_descriptor d) → T (flagless d)
+unfolding tidy_descriptor flagless
 silent d e h = rw e at (and_l (d.included || flagless d) _ h)
 
-not-included : (d : Descriptor) → d.included ≡ false → T (tidyDescriptor d) → absent ≡ d
+not-included : (d : Descriptor) → d.included ≡ false → T (tidy_descriptor d) → absent ≡ d
 unfolding flagless
 not-included d e h =
     let t = tidies d h in
@@ -241,12 +241,12 @@ not-included d e h =
       detrended = sym f.6 j;
     }
 
-absent-tidy : T (tidyDescriptor absent)
-unfolding tidyDescriptor flagless tidyAttribute
+absent-tidy : T (tidy_descriptor absent)
+unfolding tidy_descriptor flagless tidy_attribute
 absent-tidy = tt
 
-absent-fits : (w i : ℕ) → T (fitsDescriptor w i absent)
-unfolding fitsDescriptor fitsAttribute
+absent-fits : (w i : ℕ) → T (fits_descriptor w i absent)
+unfolding fits_descriptor fits_attribute
 absent-fits w i = tt
 
 abbrev inclusions : List Descriptor → List Bool
@@ -254,17 +254,17 @@ inclusions ds = map (λ d. d.included) ds
 
 module _ (w m : ℕ) where
   abbrev GoodChannel : ℕ → Descriptor → Type 0
-  GoodChannel i d = (d.included ≡ includes m i) × T (tidyDescriptor d) × T (fitsDescriptor w i d)
+  GoodChannel i d = (d.included ≡ includes m i) × T (tidy_descriptor d) × T (fits_descriptor w i d)
 
   writes-included : (i : ℕ) (t : Bool)
-      → Writes (cond t (descriptor w i) (done absent)) (encodeChannel w i) (λ d. (d.included ≡ t) × T (tidyDescriptor d) × T (fitsDescriptor w i d))
-  unfolding encodeChannel
-  writes-included i true = writes_as (writes-descriptor w i) (λ d h. (h, sym (ap (λ t. cond t (encodeDescriptor w i d) []) h.0))) (λ d h. h)
+      → Writes (cond t (descriptor w i) (done absent)) (encode_channel w i) (λ d. (d.included ≡ t) × T (tidy_descriptor d) × T (fits_descriptor w i d))
+  unfolding encode_channel
+  writes-included i true = writes_as (writes-descriptor w i) (λ d h. (h, sym (ap (λ t. cond t (encode_descriptor w i d) []) h.0))) (λ d h. h)
   writes-included i false =
       writes_as (writes-done absent) (λ d e. rw (← e) ((refl, absent-tidy, absent-fits w i), refl)) (λ d h. not-included d h.0 h.1)
 
-  pub writes-channel : (i : ℕ) → Writes (channelOf w m i) (encodeChannel w i) (GoodChannel i)
-  unfolding channelOf
+  pub writes-channel : (i : ℕ) → Writes (channel_of w m i) (encode_channel w i) (GoodChannel i)
+  unfolding channel_of
   writes-channel i = writes-included i (includes m i)
 
   -- ---- The channels
@@ -272,8 +272,8 @@ module _ (w m : ℕ) where
   record Channels (n i : ℕ) (ds : List Descriptor) : Type 0 where
     flags : inclusions ds ≡ bits n m
     many : length ds ≡ n
-    neat : T (every (λ j. tidyDescriptor) i ds)
-    ranges : T (every (fitsDescriptor w) i ds)
+    neat : T (every (λ j. tidy_descriptor) i ds)
+    ranges : T (every (fits_descriptor w) i ds)
 
   this : (n i : ℕ) → i + suc n ≡ 16 → includes m i ≡ bit (suc n) m
   unfolding includes
@@ -288,8 +288,8 @@ module _ (w m : ℕ) where
       let r = all_of n (suc i) ds (omega arith) h.1 in record {
         flags = ap₂ ◌∷◌ (h.0.0 ∙ this n i e) r.flags;
         many = ap suc r.many;
-        neat = and_i (tidyDescriptor d) (every (λ j. tidyDescriptor) (suc i) ds) h.0.1 r.neat;
-        ranges = and_i (fitsDescriptor w i d) (every (fitsDescriptor w) (suc i) ds) h.0.2 r.ranges;
+        neat = and_i (tidy_descriptor d) (every (λ j. tidy_descriptor) (suc i) ds) h.0.1 r.neat;
+        ranges = and_i (fits_descriptor w i d) (every (fits_descriptor w) (suc i) ds) h.0.2 r.ranges;
       }
 
   of-all : (n i : ℕ) (ds : List Descriptor) → i + n ≡ 16 → Channels n i ds → Each GoodChannel (from i n) ds
@@ -301,12 +301,12 @@ module _ (w m : ℕ) where
       let q = h.flags in
       let a : d.included ≡ bit (suc n) m = cc in
       let b : inclusions ds ≡ bits n m = cc in (
-        (a ∙ sym (this n i e), and_l (tidyDescriptor d) (every (λ j. tidyDescriptor) (suc i) ds) h.neat, and_l (fitsDescriptor w i d) (every (fitsDescriptor w) (suc i) ds) h.ranges),
+        (a ∙ sym (this n i e), and_l (tidy_descriptor d) (every (λ j. tidy_descriptor) (suc i) ds) h.neat, and_l (fits_descriptor w i d) (every (fits_descriptor w) (suc i) ds) h.ranges),
         of-all n (suc i) ds (omega arith) (record {
           flags = b;
           many = omega (arith, h.many);
-          neat = and_r (tidyDescriptor d) (every (λ j. tidyDescriptor) (suc i) ds) h.neat;
-          ranges = and_r (fitsDescriptor w i d) (every (fitsDescriptor w) (suc i) ds) h.ranges;
+          neat = and_r (tidy_descriptor d) (every (λ j. tidy_descriptor) (suc i) ds) h.neat;
+          ranges = and_r (fits_descriptor w i d) (every (fits_descriptor w) (suc i) ds) h.ranges;
         }),
       )
 
@@ -334,8 +334,8 @@ first-bits m =
 flag_at : (ds : List Descriptor) (i : ℕ) → get_or (inclusions ds) i false ≡ (get_or ds i absent).included
 flag_at ds i = get_or-map (λ c. c.included) ds i absent
 
-xy-first : (d : Description) (m : ℕ) → inclusions d.channels ≡ bits 16 m → includesXY d ≡ hasXY.holds (m / 256)
-unfolding includesXY bits
+xy-first : (d : Description) (m : ℕ) → inclusions d.channels ≡ bits 16 m → includes_xy d ≡ has_xy.holds (m / 256)
+unfolding includes_xy bits
 xy-first d m e = rw (← flag_at d.channels 0, ← flag_at d.channels 1, e, (first-bits m).0, (first-bits m).1)
 
 true-is : (t : Bool) → T t → t ≡ true
@@ -356,7 +356,7 @@ module _ (format : Format) (d : Description) where
   unfolding tidy all_fit
   tidy-fits e h = rw e at (and_r (neat d) (all_fit (width_of d.mark) d) h)
 
-  valid : d.mark ≡ format → Channels (width_of format) (mask d) 16 0 d.channels → hasXY.holds (mask d / 256) ≡ true → Valid format d
+  valid : d.mark ≡ format → Channels (width_of format) (mask d) 16 0 d.channels → has_xy.holds (mask d / 256) ≡ true → Valid format d
   unfolding neat all_fit
   valid e c h = record { sixteen = c.many; xy = rw (xy-first d (mask d) c.flags, h) tt; marked = e; tidy = tidy-marked e c.neat c.ranges }
 
@@ -364,12 +364,12 @@ module _ (format : Format) (d : Description) where
   unfolding neat all_fit
   as-channels v = record { flags = (bits-mask d v.sixteen).1; many = v.sixteen; neat = tidy-neat d v.tidy; ranges = tidy-fits v.marked v.tidy }
 
-pub writes-description : (format : Format) → Writes (description format) (encodeDescription (width_of format)) (Valid format)
-unfolding description encodeDescription from
+pub writes-description : (format : Format) → Writes (description format) (encode_description (width_of format)) (Valid format)
+unfolding description encode_description from
 writes-description format =
     let w = width_of format in
     writes_as
-    (writes_line (λ d. mask d / 256) (writes_one hasXY) (λ a h.
+    (writes_line (λ d. mask d / 256) (writes_one has_xy) (λ a h.
     writes_line (λ d. mask d % 256) (writes_one any) (λ b g.
     writes_line (λ d. d.channels) (writes-each (writes-channel w (a * 256 + b)) channels) (λ ds h.
     writes-done _)
@@ -384,7 +384,7 @@ writes-description format =
     (λ d h.
     let e : mask d / 256 * 256 + mask d % 256 ≡ mask d = omega arith in
     let b = bits-mask d h.sixteen in (
-      (omega (arith, b.0), sym (xy-first d (mask d) b.1) ∙ true-is (includesXY d) h.xy),
+      (omega (arith, b.0), sym (xy-first d (mask d) b.1) ∙ true-is (includes_xy d) h.xy),
       ((omega arith, refl), (rw e (of-all w (mask d) 16 0 d.channels refl (as-channels format d h)), λ j. record { channels = d.channels; mark = sym h.marked j })),
     ))
 

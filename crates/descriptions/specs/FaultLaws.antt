@@ -11,9 +11,9 @@ use Rattle.channels.specs.Channel.{channels, signed_of, width_of}
 use Rattle.channels.specs.declared.Format.{Format}
 use Rattle.formats.specs.Binary.{bit}
 use Rattle.channels.specs.Descriptors.{absent}
-use Rattle.descriptions.specs.Description.{hasXY, reserved, attribute, descriptor, includes, channelOf, description, encodeChannel}
+use Rattle.descriptions.specs.Description.{has_xy, reserved, attribute, descriptor, includes, channel_of, description, encode_channel}
 use Rattle.descriptions.specs.EncodedLaws.{writes-channel}
-use Rattle.descriptions.specs.Rules.{Entry, Breaks, xOrY, descriptorBit}
+use Rattle.descriptions.specs.Rules.{Entry, Breaks, x_or_y, descriptor_bit}
 
 -- ---- A channel
 
@@ -42,11 +42,11 @@ module _ (w : ℕ) where
       faults-as (faults-descriptor channel) (λ before b k x. (refl, x.0, x.1, not-false (bit 1 b) x.2)) (λ before b k x. (x.1, x.2, ap not x.3))
   faults-included channel false = faults-as (faults-never (never_done absent)) (λ before b k x. absurd x) (λ before b k x. impossible (cc x.0))
 
-  faults-channel : (inclusion channel : ℕ) → Faults (channelOf w inclusion channel) (LowBit (includes inclusion channel))
-  unfolding channelOf
+  faults-channel : (inclusion channel : ℕ) → Faults (channel_of w inclusion channel) (LowBit (includes inclusion channel))
+  unfolding channel_of
   faults-channel inclusion channel = faults-included channel (includes inclusion channel)
 
-  writes-described : (inclusion channel : ℕ) → Writes (channelOf w inclusion channel) (encodeChannel w channel) (Entry w inclusion channel)
+  writes-described : (inclusion channel : ℕ) → Writes (channel_of w inclusion channel) (encode_channel w channel) (Entry w inclusion channel)
   writes-described inclusion channel =
       writes_as
       (writes-channel w inclusion channel)
@@ -73,22 +73,22 @@ channel-at c h = count_at 0 16 c h ∙ omega arith
 
 module _ (w : ℕ) where
   abbrev InChannels : ℕ → List ℕ → ℕ → ℕ → Type 0
-  InChannels inclusion = InPart (encodeChannel w) (Entry w inclusion) (λ channel. LowBit (includes inclusion channel)) 0 channels
+  InChannels inclusion = InPart (encode_channel w) (Entry w inclusion) (λ channel. LowBit (includes inclusion channel)) 0 channels
 
   -- behind the first inclusion byte, and behind both
   abbrev Second : ℕ → List ℕ → ℕ → ℕ → Type 0
   Second first = Then (λ b. b ∷ []) (λ b. (b < 256) × (any.holds b ≡ true)) (λ before b k. ⊥) (λ second. InChannels (first * 256 + second))
 
   abbrev Lines : List ℕ → ℕ → ℕ → Type 0
-  Lines = Then (λ b. b ∷ []) (λ b. (b < 256) × (hasXY.holds b ≡ true)) (λ before b k. (k ≡ hasXY.fault) × (before ≡ []) × (hasXY.holds b ≡ false)) Second
+  Lines = Then (λ b. b ∷ []) (λ b. (b < 256) × (has_xy.holds b ≡ true)) (λ before b k. (k ≡ has_xy.fault) × (before ≡ []) × (has_xy.holds b ≡ false)) Second
 
   to : (before : List ℕ) (b k : ℕ) → Lines before b k → Breaks w [] before b k
-  to before b k (here x) = rw x.0 (xOrY (record { written = x.1; lacking = x.2 }))
+  to before b k (here x) = rw x.0 (x_or_y (record { written = x.1; lacking = x.2 }))
   to before b k (later first rest h e (here x)) = absurd x
   to before b k (later first rest h e (later second rest' h' e' x)) =
       let c : get_or channels x.place 0 ≡ x.place = channel-at x.place x.within in
       rw x.broken.1
-      (descriptorBit (record {
+      (descriptor_bit (record {
         first = first;
         second = second;
         bytes = (h.0, h'.0);
@@ -103,8 +103,8 @@ module _ (w : ℕ) where
       }))
 
   from : (before : List ℕ) (b k : ℕ) → Breaks w [] before b k → Lines before b k
-  from before b k (xOrY x) = here (refl, x.written, x.lacking)
-  from before b k (descriptorBit x) =
+  from before b k (x_or_y x) = here (refl, x.written, x.lacking)
+  from before b k (descriptor_bit x) =
       later x.first _ (x.bytes.0, x.xy) x.written
       (later x.second _ (x.bytes.1, refl) refl
       (record {
@@ -120,15 +120,15 @@ module _ (w : ℕ) where
   -- the rest, behind `front`, breaks the rule behind other bytes too
   moved : (front : List ℕ) {before : List ℕ} {b k : ℕ} → Breaks w front before b k
       → (rest : List ℕ) × (before ≡ front ++ rest) × ((front' before' : List ℕ) → before' ≡ front' ++ rest → Breaks w front' before' b k)
-  moved front (xOrY x) = (
+  moved front (x_or_y x) = (
     [],
     x.written ∙ sym (append-nil front),
-    λ front' before' e. xOrY (record { written = e ∙ append-nil front'; lacking = x.lacking }),
+    λ front' before' e. x_or_y (record { written = e ∙ append-nil front'; lacking = x.lacking }),
   )
-  moved front (descriptorBit x) = (
+  moved front (descriptor_bit x) = (
     _,
     x.written,
-    λ front' before' e. descriptorBit (record {
+    λ front' before' e. descriptor_bit (record {
       first = x.first;
       second = x.second;
       bytes = x.bytes;
@@ -156,7 +156,7 @@ unfolding description
 faults-description format =
     let w = width_of format in
     faults-as
-    (faults-bind (writes_one hasXY) (faults-one hasXY) (λ first h.
+    (faults-bind (writes_one has_xy) (faults-one has_xy) (λ first h.
     faults-bind (writes_one any) (faults-never never-any) (λ second h.
     faults-last (faults-each (writes-described w (first * 256 + second)) (faults-channel w (first * 256 + second)) 0 channels) (λ ds.
     never_done _))))

@@ -15,7 +15,7 @@ use Rattle.channels.specs.Stored.{value_of}
 use Rattle.channels.specs.declared.Description.{Description}
 use Rattle.channels.specs.declared.Format.{Format}
 use Rattle.channels.specs.Descriptors.{absent, included, stored}
-use Rattle.descriptions.specs.Description.{channelOf}
+use Rattle.descriptions.specs.Description.{channel_of}
 use Rattle.descriptions.specs.declared.Inclusion.{Inclusion}
 use Rattle.descriptions.specs.declared.Described.{Described}
 use Rattle.descriptions.specs.declared.Measured.{Measured}
@@ -63,8 +63,8 @@ module _ (format : Format) where
 
 -- ---- What its parts answer
 
-abbrev pub noInclusion : Failure → Inclusion
-noInclusion f = record { outcome = Failed f; bits = 0 }
+abbrev pub no_inclusion : Failure → Inclusion
+no_inclusion f = record { outcome = Failed f; bits = 0 }
 
 -- what is read behind a part, by how that ended
 unfoldable pub behind : {A : Type 0} → (ℕ → Answer A) → Outcome → Answer A
@@ -72,16 +72,16 @@ behind next (Done n) = next n
 behind next (Failed f) = failed f
 
 -- the descriptors, behind the inclusion bytes
-unfoldable pub channelsFrom : Format → (inclusion : ℕ) → Reader Description
-channelsFrom format inclusion = map (λ ds. record { channels = ds; mark = format }) (each channels (channelOf (width_of format) inclusion))
+unfoldable pub channels_from : Format → (inclusion : ℕ) → Reader Description
+channels_from format inclusion = map (λ ds. record { channels = ds; mark = format }) (each channels (channel_of (width_of format) inclusion))
 
 -- the number that is stored as 0, with a sign or without
 abbrev pub Least : (w : ℕ) → ℤ → Type 0
 Least w least = (signed : Bool) × (least ≡ value_of w signed 0)
 
 -- how many bytes the attributes have that a descriptor's first byte announces, and the descriptor with it
-unfoldable pub attributesSize : (w b : ℕ) → ℕ
-attributesSize w b = cond (bit 8 b) 2 0 + (cond (bit 7 b) w 0 + (cond (bit 6 b) w 0 + (cond (bit 5 b) w 0 + (cond (bit 4 b) w 0 + 0))))
+unfoldable pub attributes_size : (w b : ℕ) → ℕ
+attributes_size w b = cond (bit 8 b) 2 0 + (cond (bit 7 b) w 0 + (cond (bit 6 b) w 0 + (cond (bit 5 b) w 0 + (cond (bit 4 b) w 0 + 0))))
 
-unfoldable pub descriptorSize : (w b : ℕ) → ℕ
-descriptorSize w b = 1 + attributesSize w b
+unfoldable pub descriptor_size : (w b : ℕ) → ℕ
+descriptor_size w b = 1 + attributes_size w b

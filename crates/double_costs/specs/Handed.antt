@@ -11,11 +11,11 @@ use Rattle.double_costs.specs.declared.Read.{Read}
 abbrev none : Float
 none = of_bits binary64 0
 
-abbrev pub handedReading : Answer → Read
-handedReading (value x) = record { number = 0; double = x }
-handedReading absent = record { number = 1; double = none }
-handedReading (refused refusal) = record { number = number_of refusal; double = none }
+abbrev pub handed_reading : Answer → Read
+handed_reading (value x) = record { number = 0; double = x }
+handed_reading absent = record { number = 1; double = none }
+handed_reading (refused refusal) = record { number = number_of refusal; double = none }
 
 -- a scaling value, as it is handed in
-abbrev pub scalingFrom : (given : Bool) (number : ℤ) → Attribute
-scalingFrom given number = record { given = given; number = number }
+abbrev pub scaling_from : (given : Bool) (number : ℤ) → Attribute
+scaling_from given number = record { given = given; number = number }

@@ -1,8 +1,8 @@
 // Readings as doubles, as C calls for them: bench/ counts the instructions of these functions, in a library of their own.
 ghost use Rattle.std.specs.Prelude.{◌≡◌};
 ghost use Rattle.channels.specs.declared.Place.TheVariants.{Number};
-ghost use Rattle.doubles.specs.Reading.{told, reading, placeReading};
-ghost use Rattle.double_costs.specs.Handed.{handedReading, scalingFrom};
+ghost use Rattle.doubles.specs.Reading.{told, reading, place_reading};
+ghost use Rattle.double_costs.specs.Handed.{handed_reading, scaling_from};
 
 use channels::{Attribute, Place};
 use doubles::{PlaceReading, Reading};
@@ -16,7 +16,7 @@ pub struct Read {
 }
 
 fn read_of(reading: Reading) -> Read
-    ensures { result ≡ handedReading (told reading) }
+    ensures { result ≡ handed_reading (told reading) }
 {
     match reading {
         Reading::Double(x) => Read {
@@ -32,7 +32,7 @@ fn read_of(reading: Reading) -> Read
 
 #[unsafe(no_mangle)]
 pub extern "C" fn costs_double(raw: i64, e: u64, f: u64) -> Read
-    ensures { result ≡ handedReading (reading raw e f) }
+    ensures { result ≡ handed_reading (reading raw e f) }
 {
     read_of(doubles::to_double(raw, e, f))
 }
@@ -40,7 +40,7 @@ pub extern "C" fn costs_double(raw: i64, e: u64, f: u64) -> Read
 // The place is a number.
 #[unsafe(no_mangle)]
 pub extern "C" fn costs_double_place(value: i32, given: bool, number: i32) -> Read
-    ensures { result ≡ handedReading (placeReading (Number value) (scalingFrom given number)) }
+    ensures { result ≡ handed_reading (place_reading (Number value) (scaling_from given number)) }
 {
     let scaling = Attribute {
         given: given,

@@ -9,7 +9,7 @@ use Rattle.doubles.specs.declared.Reading.{Reading}
 use Rattle.doubles.specs.declared.Reading.TheVariants.{Double, Refused}
 use Rattle.doubles.specs.declared.PlaceReading.{PlaceReading}
 use Rattle.doubles.specs.declared.PlaceReading.TheVariants.{Absent, Present}
-use Rattle.doubles.specs.Reading.{told, toldPlace, Exactly, PlacedExactly, reading, placeReading}
+use Rattle.doubles.specs.Reading.{told, told_place, Exactly, PlacedExactly, reading, place_reading}
 
 same : (r q : Reading) → told r ≡ told q → r ≡ q
 same (Double x) (Double y) e = ap Double (cc)
@@ -17,7 +17,7 @@ same (Double x) (Refused g) e = impossible (cc)
 same (Refused f) (Double y) e = impossible (cc)
 same (Refused f) (Refused g) e = ap Refused (cc)
 
-same_place : (r q : PlaceReading) → toldPlace r ≡ toldPlace q → r ≡ q
+same_place : (r q : PlaceReading) → told_place r ≡ told_place q → r ≡ q
 same_place Absent Absent e = refl
 same_place Absent (Present (Double y)) e = impossible (cc)
 same_place Absent (Present (Refused g)) e = impossible (cc)
@@ -28,5 +28,5 @@ same_place (Present r) (Present q) e = ap Present (same r q e)
 pub to-double-one : (raw : ℤ) (e f : ℕ) → OneAnswer (λ r. (told r ≡ reading raw e f) × Exactly raw e f r)
 to-double-one raw e f r q h k = same r q (h.0 ∙ sym k.0)
 
-pub place-double-one : (place : Place) (scaling : Attribute) → OneAnswer (λ r. (toldPlace r ≡ placeReading place scaling) × PlacedExactly place scaling r)
+pub place-double-one : (place : Place) (scaling : Attribute) → OneAnswer (λ r. (told_place r ≡ place_reading place scaling) × PlacedExactly place scaling r)
 place-double-one place scaling r q h k = same_place r q (h.0 ∙ sym k.0)

@@ -24,12 +24,12 @@ digits bits = bits % 2 ^ 52
 -- ---- The units
 
 -- their size, by exponent and digits: from the exponent 1 on a one stands before the digits, and each further exponent doubles
-unfoldable pub sizeBy : ℕ → ℕ → ℕ
-sizeBy zero t = t
-sizeBy (suc x) t = (2 ^ 52 + t) * 2 ^ x
+unfoldable pub size_by : ℕ → ℕ → ℕ
+size_by zero t = t
+size_by (suc x) t = (2 ^ 52 + t) * 2 ^ x
 
 abbrev pub size : ℕ → ℕ
-size bits = sizeBy (exponent bits) (digits bits)
+size bits = size_by (exponent bits) (digits bits)
 
 -- a number by its sign and its size
 abbrev pub signed : Bool → ℕ → ℤ

@@ -5,39 +5,39 @@ use Rattle.std.proofs.Math.Logic.{by_cases}
 use Rattle.std.proofs.Math.Decide.{dec_lt}
 use Rattle.std.proofs.Math.Nat.{eq_of_mul-eq-mul_right, pow-succ'}
 use Rattle.formats.specs.Bytes.{impossible}
-use Rattle.doubles.specs.Double.{minus, exponent, digits, sizeBy, size, signed, units, Is}
+use Rattle.doubles.specs.Double.{minus, exponent, digits, size_by, size, signed, units, Is}
 use Rattle.doubles.specs.ValueLaws.{times}
 
 -- ---- A greater exponent, a greater size
 
-pub under : (x d : ℕ) → d < 2 ^ 52 → sizeBy x d < 2 ^ 52 * 2 ^ x
-unfolding sizeBy
+pub under : (x d : ℕ) → d < 2 ^ 52 → size_by x d < 2 ^ 52 * 2 ^ x
+unfolding size_by
 under zero d h = omega arith
 under (suc x) d h =
     let k : 2 ^ 52 + d < 2 ^ 52 * 2 = omega arith in
     lt_of_lt_of_le (mul-lt-mul_of_pos_right k (pow_pos x)) (le_of_eq (mul_assoc (2 ^ 52) 2 (2 ^ x) ∙ ap (λ (n : ℕ). 2 ^ 52 * n) (sym (pow-succ' 2 x))))
 
-over : (x d : ℕ) → 2 ^ 52 * 2 ^ x ≤ sizeBy (suc x) d
-unfolding sizeBy
+over : (x d : ℕ) → 2 ^ 52 * 2 ^ x ≤ size_by (suc x) d
+unfolding size_by
 over x d = mul-le-mul_right (2 ^ x) (le-add_right (2 ^ 52) d)
 
 -- so a smaller exponent has another size
-apart : (x y d g : ℕ) → x < y → d < 2 ^ 52 → sizeBy x d ≡ sizeBy y g → ⊥
+apart : (x y d g : ℕ) → x < y → d < 2 ^ 52 → size_by x d ≡ size_by y g → ⊥
 apart x zero d g l h e = absurd (omega arith)
-apart x (suc y) d g l h e = lt_irrefl (sizeBy x d) (lt_of_lt_of_le (under x d h) (le_trans (mul-le-mul_left (2 ^ 52) (pow_mono {i = x} {j = y} (omega arith))) (le_trans (over y g) (le_of_eq (sym e)))))
+apart x (suc y) d g l h e = lt_irrefl (size_by x d) (lt_of_lt_of_le (under x d h) (le_trans (mul-le-mul_left (2 ^ 52) (pow_mono {i = x} {j = y} (omega arith))) (le_trans (over y g) (le_of_eq (sym e)))))
 
-same_digits : (x d g : ℕ) → sizeBy x d ≡ sizeBy x g → d ≡ g
-unfolding sizeBy
+same_digits : (x d g : ℕ) → size_by x d ≡ size_by x g → d ≡ g
+unfolding size_by
 same_digits zero d g e = e
 same_digits (suc x) d g e = let k = eq_of_mul-eq-mul_right (2 ^ x) (pow_pos x) (2 ^ 52 + d) (2 ^ 52 + g) e in omega arith
 
-same-exponent : (x y d g : ℕ) → d < 2 ^ 52 → g < 2 ^ 52 → sizeBy x d ≡ sizeBy y g → x ≡ y
+same-exponent : (x y d g : ℕ) → d < 2 ^ 52 → g < 2 ^ 52 → size_by x d ≡ size_by y g → x ≡ y
 same-exponent x y d g D G e = by_cases (dec_lt x y) (λ l. absurd (apart x y d g l D e)) (λ k. by_cases (dec_lt y x) (λ l. absurd (apart y x g d l G (sym e))) (λ l. omega arith))
 
-same-fields : (x y d g : ℕ) → d < 2 ^ 52 → g < 2 ^ 52 → sizeBy x d ≡ sizeBy y g → (x ≡ y) × (d ≡ g)
+same-fields : (x y d g : ℕ) → d < 2 ^ 52 → g < 2 ^ 52 → size_by x d ≡ size_by y g → (x ≡ y) × (d ≡ g)
 same-fields x y d g D G e =
     let k = same-exponent x y d g D G e in
-    (k, same_digits y d g (ap (λ (n : ℕ). sizeBy n d) (sym k) ∙ e))
+    (k, same_digits y d g (ap (λ (n : ℕ). size_by n d) (sym k) ∙ e))
 
 -- ---- Size and sign are all the bits
 

@@ -6,33 +6,33 @@ use Rattle.std.specs.Float.Ieee.{div, of_int, of_bits, to_bits}
 use Rattle.channels.specs.declared.Attribute.{Attribute}
 use Rattle.channels.specs.declared.Place.TheVariants.{Absent, Constant, Number}
 use Rattle.refusals.specs.Stages.{require, or_else}
-use Rattle.refusals.specs.Ranges.{firstMisfit}
+use Rattle.refusals.specs.Ranges.{first_misfit}
 use Rattle.refusals.specs.declared.Quantity.TheVariants.{Raw, Exponent, Fraction}
 use Rattle.calibration.specs.Reading as calibration
-use Rattle.calibration.specs.Reading.{value, absent, uncalibrated, numbers, scaledNumbers, readWhere, readingBy, scaledReading}
+use Rattle.calibration.specs.Reading.{value, absent, uncalibrated, numbers, scaled_numbers, read_where, reading_by, scaled_reading}
 use Rattle.calibration.specs.Naming.{outside}
-use Rattle.doubles.specs.Double.{sizeBy, Is}
+use Rattle.doubles.specs.Double.{size_by, Is}
 use Rattle.doubles.specs.Quotient.{bits_of, quotient}
-use Rattle.doubles.specs.Reading.{Answer, reading, placeReading}
+use Rattle.doubles.specs.Reading.{Answer, reading, place_reading}
 
 -- ---- What some doubles are
 
 pub one : Is 0x3ff0_0000_0000_0000 (pos 1) 1
-unfolding sizeBy
+unfolding size_by
 one = record { word = lit< tt; number = lit< tt; equal = refl }
 
 -- -3/4
 pub below-zero : Is 0xbfe8_0000_0000_0000 (negsuc 2) 4
-unfolding sizeBy
+unfolding size_by
 below-zero = record { word = lit< tt; number = lit< tt; equal = refl }
 
 -- the least above zero, and the greatest
 pub least : Is 1 (pos 1) (2 ^ 1074)
-unfolding sizeBy
+unfolding size_by
 least = record { word = lit< tt; number = lit< tt; equal = refl }
 
 pub greatest : Is 0x7fef_ffff_ffff_ffff (pos ((2 ^ 53 - 1) * 2 ^ 971)) 1
-unfolding sizeBy
+unfolding size_by
 greatest = record { word = lit< tt; number = lit< tt; equal = refl }
 
 -- ---- Readings
@@ -83,18 +83,18 @@ answers =
     ∷ (reading (negsuc 32768) 0 0 is outside Raw)
     ∷ (reading (pos 1) 32 0 is outside Exponent)
     ∷ (reading (pos 1) 0 2048 is outside Fraction)
-    ∷ (placeReading Absent none is absent)  -- places
-    ∷ (placeReading Constant (scaling 26 1952) is double 0x3f40_624d_d2f1_a9fc)
-    ∷ (placeReading (Number (negsuc 0)) (scaling 16 0) is double 0xbff0_0000_0000_0000)
-    ∷ (placeReading (Number (pos 0)) (scaling 26 1952) is double 0)
-    ∷ (placeReading (Number (pos 65536)) (scaling 16 0) is outside Raw)
-    ∷ (placeReading (Number (pos 1)) (record { given = true; number = negsuc 0 }) is outside Exponent)
-    ∷ (placeReading Constant none is uncalibrated)
-    ∷ (placeReading (Number (pos 65536)) none is uncalibrated)
+    ∷ (place_reading Absent none is absent)  -- places
+    ∷ (place_reading Constant (scaling 26 1952) is double 0x3f40_624d_d2f1_a9fc)
+    ∷ (place_reading (Number (negsuc 0)) (scaling 16 0) is double 0xbff0_0000_0000_0000)
+    ∷ (place_reading (Number (pos 0)) (scaling 26 1952) is double 0)
+    ∷ (place_reading (Number (pos 65536)) (scaling 16 0) is outside Raw)
+    ∷ (place_reading (Number (pos 1)) (record { given = true; number = negsuc 0 }) is outside Exponent)
+    ∷ (place_reading Constant none is uncalibrated)
+    ∷ (place_reading (Number (pos 65536)) none is uncalibrated)
     ∷ []
 
 pub answered : map (λ e. e.asked) answers ≡ map (λ e. e.answer) answers
 unfolding
     quotient div of_int of_bits
-    numbers scaledNumbers firstMisfit or_else require readWhere calibration.reading readingBy scaledReading calibration.placeReading
+    numbers scaled_numbers first_misfit or_else require read_where calibration.reading reading_by scaled_reading calibration.place_reading
 answered = refl

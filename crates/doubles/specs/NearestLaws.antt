@@ -16,7 +16,7 @@ use Rattle.std.specs.Float.Ieee.Nearest.{closest}
 use Rattle.std.specs.Float.Ieee.Order.{drop, kept}
 use Rattle.std.specs.Float.Ieee.Scale.{grid, normal_of_fraction}
 use Rattle.calibration.specs.Reading.{InRange}
-use Rattle.doubles.specs.Double.{minus, exponent, digits, sizeBy, size, signed, units}
+use Rattle.doubles.specs.Double.{minus, exponent, digits, size_by, size, signed, units}
 use Rattle.doubles.specs.DoubleLaws.{under, digits_in, same_bits}
 use Rattle.doubles.specs.ValueLaws.{times, is_number, is-sized}
 use Rattle.doubles.specs.Quotient.{bits_of, negative, quotient}
@@ -96,14 +96,14 @@ no_tie j w u r a A l h t =
 
 -- ---- A double is a multiple of 2^k, or below 2^52 of it
 
-multiple : (k x g : ℕ) → k < x → (j : ℕ) × (sizeBy x g ≡ j * 2 ^ k)
-unfolding sizeBy
+multiple : (k x g : ℕ) → k < x → (j : ℕ) × (size_by x g ≡ j * 2 ^ k)
+unfolding size_by
 multiple k zero g h = absurd (omega arith)
 multiple k (suc x) g h =
     let e : x - k + k ≡ x = omega arith in
     ((2 ^ 52 + g) * 2 ^ (x - k), rw (mul_assoc, ← pow-add 2 (x - k) k, e))
 
-below_steps : (k x g : ℕ) → x ≤ k → g < 2 ^ 52 → sizeBy x g < 2 ^ 52 * 2 ^ k
+below_steps : (k x g : ℕ) → x ≤ k → g < 2 ^ 52 → size_by x g < 2 ^ 52 * 2 ^ k
 below_steps k x g h l = lt_of_lt_of_le (under x g l) (mul-le-mul_left (2 ^ 52) (pow_mono {i = x} {j = k} h))
 
 -- ---- A fraction of at least 2^52 units is at least 2^52 of its steps, since all digits but 53 are dropped
@@ -122,16 +122,16 @@ in-steps a d D h =
 
 -- q steps of 2^k units, against the double with the exponent x and the digits g
 nearer : (n d k q : ℕ) → 0 < d → gap (q * (d * 2 ^ k)) n * 2 < d * 2 ^ k → 2 ^ 52 * (d * 2 ^ k) ≤ n
-    → (x g : ℕ) → g < 2 ^ 52 → sizeBy x g ≢ q * 2 ^ k → gap (q * 2 ^ k * d) n < gap (sizeBy x g * d) n
+    → (x g : ℕ) → g < 2 ^ 52 → size_by x g ≢ q * 2 ^ k → gap (q * 2 ^ k * d) n < gap (size_by x g * d) n
 nearer n d k q D half steps x g l h = rw (← reordered q d (2 ^ k)) (by_cases (dec_lt k x) by-steps below)
   where
-    by-steps : k < x → gap (q * (d * 2 ^ k)) n < gap (sizeBy x g * d) n
+    by-steps : k < x → gap (q * (d * 2 ^ k)) n < gap (size_by x g * d) n
     by-steps b =
         let m = multiple k x g b in
         rw (m.1, ← reordered m.0 d (2 ^ k)) (other-multiple n (d * 2 ^ k) q half m.0 (λ z. h (m.1 ∙ ap (λ (y : ℕ). y * 2 ^ k) z)))
 
-    below : (k < x → ⊥) → gap (q * (d * 2 ^ k)) n < gap (sizeBy x g * d) n
-    below b = below-a-multiple n (d * 2 ^ k) q half (2 ^ 52) (sizeBy x g * d) (rw (reordered (2 ^ 52) d (2 ^ k)) (mul-lt-mul_of_pos_right (below_steps k x g (omega arith) l) D)) steps
+    below : (k < x → ⊥) → gap (q * (d * 2 ^ k)) n < gap (size_by x g * d) n
+    below b = below-a-multiple n (d * 2 ^ k) q half (2 ^ 52) (size_by x g * d) (rw (reordered (2 ^ 52) d (2 ^ k)) (mul-lt-mul_of_pos_right (below_steps k x g (omega arith) l) D)) steps
 
 -- where n is zero, so is q
 none : (d k q : ℕ) → 0 < d → gap (q * (d * 2 ^ k)) 0 * 2 < d * 2 ^ k → (m : ℕ) → m ≢ q * 2 ^ k → gap (q * 2 ^ k * d) 0 < gap (m * d) 0
@@ -139,13 +139,13 @@ none d k zero D half m h = let M : 0 < m = omega arith in omega (arith, mul-pos 
 none d k (suc q) D half m h = absurd (omega arith)
 
 -- a · 2^27 / d, rounded
-nearest-size : (d : ℕ) → 0 < d → d ≤ 2 ^ 43 → (a : ℕ) → a ≤ 65535 → (x g : ℕ) → g < 2 ^ 52 → sizeBy x g ≢ grid binary64 (a * 2 ^ 27) d
-    → gap (grid binary64 (a * 2 ^ 27) d * d) (a * 2 ^ 27 * 2 ^ 1074) < gap (sizeBy x g * d) (a * 2 ^ 27 * 2 ^ 1074)
+nearest-size : (d : ℕ) → 0 < d → d ≤ 2 ^ 43 → (a : ℕ) → a ≤ 65535 → (x g : ℕ) → g < 2 ^ 52 → size_by x g ≢ grid binary64 (a * 2 ^ 27) d
+    → gap (grid binary64 (a * 2 ^ 27) d * d) (a * 2 ^ 27 * 2 ^ 1074) < gap (size_by x g * d) (a * 2 ^ 27 * 2 ^ 1074)
 nearest-size d D R zero A x g l h =
     let k = drop 53 0 d in
     let u = d * 2 ^ k in
     let U : 0 < u = mul-pos D (pow_pos k) in
-    none d k (kept 53 0 d) D (half_step 0 u U (λ t. omega (arith, t, div-add-mod' 0 u))) (sizeBy x g) h
+    none d k (kept 53 0 d) D (half_step 0 u U (λ t. omega (arith, t, div-add-mod' 0 u))) (size_by x g) h
 nearest-size d D R (suc a) A x g l h =
     let n = suc a * 2 ^ 27 * 2 ^ 1074 in
     let k = drop 53 n d in
@@ -161,19 +161,19 @@ nearest-size d D R (suc a) A x g l h =
 -- ---- With the signs
 
 -- q is nearest to n / d by size, and has its sign
-module _ (q n d : ℕ) (D : 0 < d) (near : (x g : ℕ) → g < 2 ^ 52 → sizeBy x g ≢ q → gap (q * d) n < gap (sizeBy x g * d) n) where
+module _ (q n d : ℕ) (D : 0 < d) (near : (x g : ℕ) → g < 2 ^ 52 → size_by x g ≢ q → gap (q * d) n < gap (size_by x g * d) n) where
   -- zero is no nearer than q, and what has the other sign is beyond zero
   beyond-zero : (m : ℕ) → (q ≡ 0 → m ≢ 0) → gap (q * d) n < m * d + n
-  unfolding sizeBy
+  unfolding size_by
   beyond-zero m h = by_cases (ℕ_discrete q 0)
       (λ e. let k = h e in let M : 0 < m = omega arith in rw e (omega (arith, mul-pos M D)))
       (λ k. omega (arith, near 0 0 (omega arith) (λ e. k (sym e))))
 
-  nearest-signed : (s t : Bool) (x g : ℕ) → g < 2 ^ 52 → signed t (sizeBy x g) ≢ signed s q → nat_abs (signed s (q * d) -ℤ signed s n) < nat_abs (signed t (sizeBy x g * d) -ℤ signed s n)
-  nearest-signed true true x g l h = rw (like-signs true (q * d) n, like-signs true (sizeBy x g * d) n) (near x g l (λ e. h (ap (signed true) e)))
-  nearest-signed true false x g l h = rw (like-signs true (q * d) n, unlike-signs true (sizeBy x g * d) n) (beyond-zero (sizeBy x g) (λ e z. h (ap (signed false) z ∙ sym (ap (signed true) e))))
-  nearest-signed false true x g l h = rw (like-signs false (q * d) n, unlike-signs false (sizeBy x g * d) n) (beyond-zero (sizeBy x g) (λ e z. h (ap (signed true) z ∙ sym (ap (signed false) e))))
-  nearest-signed false false x g l h = rw (like-signs false (q * d) n, like-signs false (sizeBy x g * d) n) (near x g l (λ e. h (ap (signed false) e)))
+  nearest-signed : (s t : Bool) (x g : ℕ) → g < 2 ^ 52 → signed t (size_by x g) ≢ signed s q → nat_abs (signed s (q * d) -ℤ signed s n) < nat_abs (signed t (size_by x g * d) -ℤ signed s n)
+  nearest-signed true true x g l h = rw (like-signs true (q * d) n, like-signs true (size_by x g * d) n) (near x g l (λ e. h (ap (signed true) e)))
+  nearest-signed true false x g l h = rw (like-signs true (q * d) n, unlike-signs true (size_by x g * d) n) (beyond-zero (size_by x g) (λ e z. h (ap (signed false) z ∙ sym (ap (signed true) e))))
+  nearest-signed false true x g l h = rw (like-signs false (q * d) n, unlike-signs false (size_by x g * d) n) (beyond-zero (size_by x g) (λ e z. h (ap (signed true) z ∙ sym (ap (signed false) e))))
+  nearest-signed false false x g l h = rw (like-signs false (q * d) n, like-signs false (size_by x g * d) n) (near x g l (λ e. h (ap (signed false) e)))
 
 -- ---- Nothing else is the nearest
 
@@ -209,7 +209,7 @@ module _ (raw : ℤ) (e f : ℕ) (h : InRange raw e f) where
   some : 0 < scale
   some = mul-pos (omega arith) (pow_pos e)
 
-  near-at : (x g : ℕ) → g < 2 ^ 52 → sizeBy x g ≢ size bits → gap (size bits * scale) target < gap (sizeBy x g * scale) target
+  near-at : (x g : ℕ) → g < 2 ^ 52 → size_by x g ≢ size bits → gap (size bits * scale) target < gap (size_by x g * scale) target
   near-at x g l k =
       let m = h.fraction in
       let c : 2048 + f ≤ 2 ^ 12 = omega arith in

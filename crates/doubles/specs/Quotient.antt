@@ -11,20 +11,20 @@ bits_of x = to_bits binary64 x
 
 -- ---- The operands
 
-abbrev pub rawDouble : ℤ → Float
-rawDouble raw = of_int binary64 raw
+abbrev pub raw_double : ℤ → Float
+raw_double raw = of_int binary64 raw
 
 -- (1 + F/2048) · 2^(E-16): the exponent's bits are E - 16 + 1023, and F is the highest eleven digits
 abbrev pub scale_bits : ℕ → ℕ → ℕ
 scale_bits e f = (e + 1007) * 2 ^ 52 + f * 2 ^ 41
 
-abbrev pub scaleDouble : ℕ → ℕ → Float
-scaleDouble e f = of_bits binary64 (scale_bits e f)
+abbrev pub scale_double : ℕ → ℕ → Float
+scale_double e f = of_bits binary64 (scale_bits e f)
 
 -- ---- The division
 
 unfoldable pub quotient : ℤ → ℕ → ℕ → Float
-quotient raw e f = div binary64 (rawDouble raw) (scaleDouble e f)
+quotient raw e f = div binary64 (raw_double raw) (scale_double e f)
 
 abbrev pub negative : ℤ → Bool
 negative (pos n) = false
@@ -34,9 +34,9 @@ negative (negsuc n) = true
 
 pub record Quotient (raw : ℤ) (e f : ℕ) (x : Float) : Type 0 where
   -- it is one division of two doubles: these are raw and the scale, (2048 + F) · 2^E / 2^27, neither more nor less
-  pub dividend : Is (bits_of (rawDouble raw)) raw 1
-  pub divisor : Is (bits_of (scaleDouble e f)) (pos ((2048 + f) * 2 ^ e)) (2 ^ 27)
-  pub divided : x ≡ div binary64 (rawDouble raw) (scaleDouble e f)
+  pub dividend : Is (bits_of (raw_double raw)) raw 1
+  pub divisor : Is (bits_of (scale_double e f)) (pos ((2048 + f) * 2 ^ e)) (2 ^ 27)
+  pub divided : x ≡ div binary64 (raw_double raw) (scale_double e f)
   -- for every F it is a number, nearer to the exact fraction than any other double, and has raw's sign
   pub nearest : Nearest (bits_of x) (raw *ℤ pos (2 ^ 27)) ((2048 + f) * 2 ^ e)
   pub sign : minus (bits_of x) ≡ negative raw

@@ -14,10 +14,10 @@ use Rattle.std.specs.Float.Ieee.Order.{drop, kept}
 use Rattle.std.specs.Float.Ieee.Scale.{round_same, grid}
 use Rattle.std.specs.Float.Ieee.Positive.{first_pos}
 use Rattle.calibration.specs.Reading.{InRange}
-use Rattle.doubles.specs.Double.{sizeBy, size, signed, Is}
+use Rattle.doubles.specs.Double.{size_by, size, signed, Is}
 use Rattle.doubles.specs.DoubleLaws.{same_bits}
 use Rattle.doubles.specs.ValueLaws.{times, Worth, as-fraction, is-sized, is-worth}
-use Rattle.doubles.specs.Quotient.{bits_of, rawDouble, scaleDouble, negative, quotient}
+use Rattle.doubles.specs.Quotient.{bits_of, raw_double, scale_double, negative, quotient}
 use Rattle.doubles.specs.OperandLaws.{by_sign, raw-worth, scale-worth}
 
 -- ---- A division of two numbers is one rounding of their exact fraction
@@ -103,7 +103,7 @@ by-power s a e h he =
 -- ---- Where raw is zero
 
 plus-zero-bits : {x : Float} {c : ℕ} → 0 < c → T (fits binary64 x) → Worth x false 0 c → bits_of x ≡ 0
-unfolding sizeBy
+unfolding size_by
 plus-zero-bits {x} {c} C f v =
     let b = to_bits binary64 x in
     let k = is-sized f v in
@@ -130,12 +130,12 @@ module _ (raw : ℤ) (e f : ℕ) (h : InRange raw e f) where
   unfolding quotient
   rounded-once =
       let s = h.size in
-      divided (rawDouble raw) (scaleDouble e f) (mul-pos (omega arith) (pow_pos e)) (omega arith) (pow_pos 27) (raw-worth raw (omega arith)) (scale-worth e f h.exponent h.fraction)
+      divided (raw_double raw) (scale_double e f) (mul-pos (omega arith) (pow_pos e)) (omega arith) (pow_pos 27) (raw-worth raw (omega arith)) (scale-worth e f h.exponent h.fraction)
       ∙ ap (round binary64 (negative raw) numerator) (mul-one denominator)
 
   pub held : T (fits binary64 (quotient raw e f))
   unfolding quotient
-  held = div-fits binary64 (rawDouble raw) (scaleDouble e f)
+  held = div-fits binary64 (raw_double raw) (scale_double e f)
 
   pub worth-at : Worth (quotient raw e f) (negative raw) (grid binary64 numerator denominator) (2 ^ 1074)
   worth-at =

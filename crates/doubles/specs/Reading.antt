@@ -3,7 +3,7 @@ use Rattle.std.specs.Prelude.{ℕ, ◌<◌, ℤ, Float}
 use Rattle.channels.specs.declared.Attribute.{Attribute}
 use Rattle.channels.specs.declared.Place.{Place}
 use Rattle.calibration.specs.Reading as calibration
-use Rattle.calibration.specs.Reading.{value, absent, refused, rawOf, exponentBy, fractionBy}
+use Rattle.calibration.specs.Reading.{value, absent, refused, raw_of, exponent_by, fraction_by}
 use Rattle.doubles.specs.declared.Reading.{Reading}
 use Rattle.doubles.specs.declared.Reading.TheVariants.{Double, Refused}
 use Rattle.doubles.specs.declared.PlaceReading as placed
@@ -20,8 +20,8 @@ abbrev pub reading : (raw : ℤ) (e f : ℕ) → Answer
 reading = calibration.reading quotient
 
 -- place_double
-abbrev pub placeReading : (place : Place) (scaling : Attribute) → Answer
-placeReading = calibration.placeReading quotient
+abbrev pub place_reading : (place : Place) (scaling : Attribute) → Answer
+place_reading = calibration.place_reading quotient
 
 -- ---- What the code's answers say
 
@@ -29,9 +29,9 @@ abbrev pub told : Reading → Answer
 told (Double x) = value x
 told (Refused refusal) = refused refusal
 
-abbrev pub toldPlace : placed.PlaceReading → Answer
-toldPlace placed.TheVariants.Absent = absent
-toldPlace (placed.TheVariants.Present r) = told r
+abbrev pub told_place : placed.PlaceReading → Answer
+told_place placed.TheVariants.Absent = absent
+told_place (placed.TheVariants.Present r) = told r
 
 -- ---- A double that is answered is the quotient promised
 
@@ -43,7 +43,7 @@ Exactly raw e f (Refused refusal) = Unit {0}
 -- of what a place is read as, by E and F of its channel's scaling value
 abbrev pub PlacedExactly : (place : Place) (scaling : Attribute) → placed.PlaceReading → Type 0
 PlacedExactly place scaling placed.TheVariants.Absent = Unit {0}
-PlacedExactly place scaling (placed.TheVariants.Present r) = Exactly (rawOf place) (exponentBy scaling) (fractionBy scaling) r
+PlacedExactly place scaling (placed.TheVariants.Present r) = Exactly (raw_of place) (exponent_by scaling) (fraction_by scaling) r
 
 -- ---- What is answered is a number, neither an infinity nor a NaN: so its bits may be asked for
 

@@ -8,7 +8,7 @@ use Rattle.std.specs.Float.Ieee.{up, down, odd, fits, of_fields, of_bits, to_bit
 use Rattle.std.specs.Float.Ieee.Fits.{down_pos}
 use Rattle.std.specs.Float.Ieee.Exact.{HasValue, odd_sign}
 use Rattle.std.specs.Float.Ieee.Bits.{of_bits-to_bits, to_bits-lt}
-use Rattle.doubles.specs.Double.{minus, exponent, digits, sizeBy, size, signed, Is}
+use Rattle.doubles.specs.Double.{minus, exponent, digits, size_by, size, signed, Is}
 
 -- ---- A number by its sign and its size
 
@@ -69,8 +69,8 @@ fields-number u (suc x) d {s} {a} {c} h v = go (eqb (suc x) 2047) refl v
     go true e w = absurd (no_number (eqb d 0) u w)
     go false e w = below (suc x) h (eqb-false (suc x) 2047 e)
 
-fields-worth : (u : Bool) (x d : ℕ) → x < 2047 → Worth (of_fields binary64 u x d) u (sizeBy x d) (2 ^ 1074)
-unfolding of_fields sizeBy
+fields-worth : (u : Bool) (x d : ℕ) → x < 2047 → Worth (of_fields binary64 u x d) u (size_by x d) (2 ^ 1074)
+unfolding of_fields size_by
 fields-worth u zero d h = record { worth = subst (λ (n : ℕ). HasValue (odd 53 u d 0 1074) u n (2 ^ 1074)) (mul-one d) (odd_sign 53 u d 0 1074) }
 fields-worth u (suc x) d h = go (eqb (suc x) 2047) refl
   where

@@ -1,8 +1,8 @@
 // Readings as doubles, by a channel's scaling value (7.3.4.3): one division of the raw number by it, each first made a double without loss (request L6).
 ghost use Rattle.std.specs.Prelude.{◌≡◌, ◌≤◌};
 ghost use Rattle.calibration.specs.Reading.{InRange};
-ghost use Rattle.doubles.specs.Quotient.{scaleDouble, Quotient};
-ghost use Rattle.doubles.specs.Reading.{told, toldPlace, Exactly, PlacedExactly, reading, placeReading};
+ghost use Rattle.doubles.specs.Quotient.{scale_double, Quotient};
+ghost use Rattle.doubles.specs.Reading.{told, told_place, Exactly, PlacedExactly, reading, place_reading};
 
 use calibration::Calibrated;
 use channels::{Attribute, Place};
@@ -25,7 +25,7 @@ pub enum PlaceReading {
 // (1 + F/2048) * 2^(E-16) by its bits: the exponent, E - 16 + 1023, stands at 2^52, and F at the top of the digits, at 2^41. Nothing is rounded.
 fn scale_of(e: u64, f: u64) -> f64
     requires { (e ≤ 31) × (f ≤ 2047) }
-    ensures { result ≡ scaleDouble e f }
+    ensures { result ≡ scale_double e f }
 {
     f64::from_bits((e + 1007) * 4503599627370496 + f * 2199023255552)
 }
@@ -51,7 +51,7 @@ pub fn to_double(raw: i64, e: u64, f: u64) -> Reading
 
 // One place of a point, with its channel's scaling value.
 pub fn place_double(place: Place, scaling: Attribute) -> PlaceReading
-    ensures { (toldPlace result ≡ placeReading place scaling) × PlacedExactly place scaling result }
+    ensures { (told_place result ≡ place_reading place scaling) × PlacedExactly place scaling result }
 {
     match calibration::calibrate(place, scaling) {
         Calibrated::Absent => PlaceReading::Absent,

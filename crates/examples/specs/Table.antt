@@ -1,7 +1,7 @@
 -- The proved examples of document 01: one table of questions and answers, and one claim.
 --
--- Each answer is a function's own. `record_reading::judge` promises `r ≡ judged (run fullRecord bytes)`, `judge_whole`, `judge_point` and `point` promise
--- equations with `judgedWhole`, `pointedAt` and `placesIn`, `templates::read` promises `r ≡ templateOf bytes`, `readings::to_thousandths`
+-- Each answer is a function's own. `record_reading::judge` promises `r ≡ judged (run full_record bytes)`, `judge_whole`, `judge_point` and `point` promise
+-- equations with `judged_whole`, `pointed_at` and `places_in`, `templates::read` promises `r ≡ template_of bytes`, `readings::to_thousandths`
 -- promises `told r ≡ reading raw e f`, and none can meet its promise by a second answer. The right sides of these equations are what is
 -- computed here.
 use Rattle.std.specs.Prelude.{◌≡◌, refl, Bool, true, false, List, [], ◌∷◌, ◌++◌, map, ℕ, ℤ, pos, negsuc, replicate, set, take, length}
@@ -9,9 +9,9 @@ use Rattle.formats.specs.Reader as reader
 use Rattle.formats.specs.Reader.{Answer, next, run, bind, each, times, one, free, literal}
 use Rattle.formats.specs.Number as numbers
 use Rattle.formats.specs.Number.{number}
-use Rattle.refusals.specs.Table.{number_of, place_of, named, refusalOf}
+use Rattle.refusals.specs.Table.{number_of, place_of, named, refusal_of}
 use Rattle.refusals.specs.Stages.{require, or_else}
-use Rattle.refusals.specs.Ranges.{firstMisfit}
+use Rattle.refusals.specs.Ranges.{first_misfit}
 use Rattle.refusals.specs.declared.Where.{Where}
 use Rattle.refusals.specs.declared.Where.TheVariants.{At, Nowhere}
 use Rattle.refusals.specs.declared.Refusal.{Refusal}
@@ -25,15 +25,15 @@ use Rattle.channels.specs.declared.Descriptor.{Descriptor}
 use Rattle.channels.specs.declared.Description.{Description}
 use Rattle.channels.specs.declared.Place.{Place}
 use Rattle.channels.specs.declared.Place.TheVariants.{Absent, Constant, Number}
-use Rattle.channels.specs.Descriptors.{noAttribute, absent}
+use Rattle.channels.specs.Descriptors.{no_attribute, absent}
 use Rattle.channels.specs.declared.Format.TheVariants.{Full, Compact}
-use Rattle.descriptions.specs.Description.{attribute, descriptor, includes, channelOf, description}
+use Rattle.descriptions.specs.Description.{attribute, descriptor, includes, channel_of, description}
 use Rattle.descriptions.specs.Read.{nothing}
-use Rattle.points.specs.Points.{storedFrom, channels, sample, point}
+use Rattle.points.specs.Points.{stored_from, channels, sample, point}
 use Rattle.point_places.specs.Places.{places_of, nowhere}
-use Rattle.records.specs.Record.{Record, extension, fullRecord, present}
-use Rattle.record_reading.specs.Verdict.{verdictFrom, descriptionIn, judged, judgedWhole}
-use Rattle.record_points.specs.Pointing.{pointedAt, placesIn}
+use Rattle.records.specs.Record.{Record, extension, full_record, present}
+use Rattle.record_reading.specs.Verdict.{verdict_from, description_in, judged, judged_whole}
+use Rattle.record_points.specs.Pointing.{pointed_at, places_in}
 use Rattle.record_reading.specs.declared.Verdict.{Verdict}
 use Rattle.record_reading.specs.declared.Verdict.TheVariants as verdict
 use Rattle.record_reading.specs.declared.Judged.{Judged}
@@ -42,7 +42,7 @@ use Rattle.record_points.specs.declared.Pointed.TheVariants as pointed
 use Rattle.demands.specs.Shortest.{M}
 use Rattle.templates.specs.declared.Judged as judgement
 use Rattle.templates.specs.Reading as templates
-use Rattle.templates.specs.Reading.{saying, withContent, isShortest, atEnd, limitedBy, limitedFrom, filling, describedBy, contentOf, lengthAndContent, templateOf}
+use Rattle.templates.specs.Reading.{saying, with_content, is_shortest, at_end, limited_by, limited_from, filling, described_by, content_of, length_and_content, template_of}
 use Rattle.calibration.specs.Reading as calibration
 use Rattle.calibration.specs.Reading.{value}
 use Rattle.readings.specs.Thousandths as readings
@@ -74,30 +74,30 @@ pub record Said : Type 0 where
 
 pub data Answered : Type 0 where
   said : Said → Answered
-  judgedAs : Numbered → judgement.Judged → Answered
+  judged_as : Numbered → judgement.Judged → Answered
   read : List readings.Answer → Answered
 
-unfoldable pub verdictNumber : Verdict → Numbered
-verdictNumber (verdict.Record n count extended) = accepted
-verdictNumber (verdict.Refused refusal) = numbered refusal
+unfoldable pub verdict_number : Verdict → Numbered
+verdict_number (verdict.Record n count extended) = accepted
+verdict_number (verdict.Refused refusal) = numbered refusal
 
-unfoldable pub templateNumber : Judgement → Numbered
-templateNumber Passed = accepted
-templateNumber (Refused refusal) = numbered refusal
+unfoldable pub template_number : Judgement → Numbered
+template_number Passed = accepted
+template_number (Refused refusal) = numbered refusal
 
 -- what is said, by what reading the bytes answers
 unfoldable pub said_of : (size : ℕ) → Answer Record → Said
 said_of size answer = record {
   front = judged answer;
-  whole = judgedWhole size answer;
-  number = verdictNumber (judged answer).verdict;
-  pointed = pointedAt 0 answer;
-  places = placesIn 0 answer;
+  whole = judged_whole size answer;
+  number = verdict_number (judged answer).verdict;
+  pointed = pointed_at 0 answer;
+  places = places_in 0 answer;
 }
 
 unfoldable pub answered : Question → Answered
-answered (bytes b) = said (said_of (length b) (run fullRecord b))
-answered (template b) = judgedAs (templateNumber (templateOf b).verdict) (templateOf b)
+answered (bytes b) = said (said_of (length b) (run full_record b))
+answered (template b) = judged_as (template_number (template_of b).verdict) (template_of b)
 answered (scaled e f raws) = read (map (λ raw. reading raw e f) raws)
 
 -- ---- Answers, in the words of document 01
@@ -130,11 +130,11 @@ short = refusal 1 Nowhere Short
 abbrev plain : (constant : Bool) → Descriptor
 plain constant = record {
   included = true;
-  scaling = noAttribute;
-  minimum = noAttribute;
-  maximum = noAttribute;
-  mean = noAttribute;
-  deviation = noAttribute;
+  scaling = no_attribute;
+  minimum = no_attribute;
+  maximum = no_attribute;
+  mean = no_attribute;
+  deviation = no_attribute;
   constant = constant;
   detrended = false;
 }
@@ -145,8 +145,8 @@ described x y = record { channels = x ∷ y ∷ replicate 14 absent; mark = Full
 abbrev both : Description
 both = described (plain false) (plain false)
 
-abbrev constantX : Description
-constantX = described (plain true) (plain false)
+abbrev constant_x : Description
+constant_x = described (plain true) (plain false)
 
 abbrev xy : Place → Place → List Place
 xy x y = x ∷ y ∷ replicate 14 Absent
@@ -171,16 +171,16 @@ table =
     ∷ (bytes (set M 10 0x01) is refusal 5 (At 10) (ReservedBit 10))  -- P6
     ∷ (bytes (set M 13 0x01) is refusal 7 (At 13) (OpeningBits 13))  -- P7
     ∷ (bytes (set M 16 0x01 ++ 0x7F ∷ 0xFF ∷ 0x80 ∷ 0x00 ∷ []) is single 21 both (xy (Number (negsuc 0)) (Number (pos 0))))  -- P8: X -1, Y 0
-    ∷ (bytes (set (set M 10 0x04) 16 0x01 ++ 0x80 ∷ 0x05 ∷ []) is single 19 constantX (xy Constant (Number (pos 5))))  -- P9: X constant, Y 5
-    ∷ (template (0xB1 ∷ 0x03 ∷ 0x82 ∷ 0x01 ∷ 0x64 ∷ []) is judgedAs accepted (templates.accepted (saying false (nothing Compact) true 100)))  -- P10
-    ∷ (template (0xB1 ∷ 0x04 ∷ 0x82 ∷ 0x02 ∷ 0x00 ∷ 0x64 ∷ []) is judgedAs (refused 18 Nowhere) (templates.refused Maximum))  -- P11
+    ∷ (bytes (set (set M 10 0x04) 16 0x01 ++ 0x80 ∷ 0x05 ∷ []) is single 19 constant_x (xy Constant (Number (pos 5))))  -- P9: X constant, Y 5
+    ∷ (template (0xB1 ∷ 0x03 ∷ 0x82 ∷ 0x01 ∷ 0x64 ∷ []) is judged_as accepted (templates.accepted (saying false (nothing Compact) true 100)))  -- P10
+    ∷ (template (0xB1 ∷ 0x04 ∷ 0x82 ∷ 0x02 ∷ 0x00 ∷ 0x64 ∷ []) is judged_as (refused 18 Nowhere) (templates.refused Maximum))  -- P11
     ∷ (scaled 26 1952 (pos 1 ∷ negsuc 0 ∷ pos 3 ∷ []) is read (value (pos 1) ∷ value (negsuc 0) ∷ value (pos 2) ∷ []))  -- P12: 1, -1 and 3 are 1, -1 and 2
     ∷ []
 
 pub examples : map (λ e. answered e.question) table ≡ map (λ e. e.answer) table
-unfolding answered said_of run next bind reader.map each times one free literal number value_of offset signed_of attribute descriptor includes channelOf description
-    storedFrom channels state_of sample point extension fullRecord places_of
-    named refusalOf present verdictFrom descriptionIn verdictNumber judgedWhole pointedAt placesIn
-    numbers.value nothing templateNumber withContent isShortest atEnd limitedBy limitedFrom filling describedBy contentOf lengthAndContent templateOf
-    nearest thousandths calibration.numbers firstMisfit or_else require calibration.readWhere calibration.reading
+unfolding answered said_of run next bind reader.map each times one free literal number value_of offset signed_of attribute descriptor includes channel_of description
+    stored_from channels state_of sample point extension full_record places_of
+    named refusal_of present verdict_from description_in verdict_number judged_whole pointed_at places_in
+    numbers.value nothing template_number with_content is_shortest at_end limited_by limited_from filling described_by content_of length_and_content template_of
+    nearest thousandths calibration.numbers first_misfit or_else require calibration.read_where calibration.reading
 examples = refl

@@ -155,7 +155,7 @@ fn values_at(line: &[u8], at: usize, values: &mut [i32; 131072]) -> Given {
 fn extended_at(line: &[u8], at: usize, space: &mut [u8; 131072]) -> Given {
     let data = words::next(line, b' ', at);
     let word = words::part(line, data.from, data.to);
-    let amount = hex::hex_in(words::without_not(word), space);
+    let amount = hexadecimal::hex_in(words::without_not(word), space);
     Given {
         reason: words::reason(amount.good || says_none(word), word, words::NOT_BYTES),
         wanted: !words::says_not(word),

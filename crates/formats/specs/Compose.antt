@@ -8,7 +8,7 @@ use Prim.Native.Nat.{ℕ, zero, suc, ◌+◌, ◌-◌, ◌≤◌, ◌<◌}
 use native.Mathlib.Omega.{arith}
 use Rattle.std.proofs.Math.ListN.{length, length-drop}
 use Rattle.formats.specs.Bytes.{impossible}
-use Rattle.formats.specs.Reader.{Test, Reader, done, byte, Answer, ok, short, bad, next, after, mapped, and_then, run, readAt, bind, map, each, times, one, any, free}
+use Rattle.formats.specs.Reader.{Test, Reader, done, byte, Answer, ok, short, bad, next, after, mapped, and_then, run, read_at, bind, map, each, times, one, any, free}
 use Rattle.formats.specs.Law.{run-pass, run-fail, whole}
 
 -- ---- Answers, counted from elsewhere
@@ -38,29 +38,29 @@ module _ {A : Type 0} where
   after-after n m short = refl
   after-after n m (bad k p) = ap (bad k) (sym (add_assoc n m p))
 
-  pub at-start : (r : Reader A) (s : List ℕ) → readAt r s 0 ≡ run r s
-  unfolding readAt
+  pub at-start : (r : Reader A) (s : List ℕ) → read_at r s 0 ≡ run r s
+  unfolding read_at
   at-start r s = after-zero (run r s)
 
-  pub at_done : (v : A) (s : List ℕ) (at : ℕ) → readAt (done v) s at ≡ ok v at
-  unfolding readAt run after
+  pub at_done : (v : A) (s : List ℕ) (at : ℕ) → read_at (done v) s at ≡ ok v at
+  unfolding read_at run after
   at_done v s at = ap (ok v) {x = at + 0} {y = at} (omega arith)
 
 -- ---- One byte
 
 module _ {A : Type 0} (c : Test) (f : ℕ → Reader A) (s : List ℕ) (at : ℕ) where
-  pub at-short : length s ≤ at → readAt (byte c f) s at ≡ short
-  unfolding readAt run after
+  pub at-short : length s ≤ at → read_at (byte c f) s at ≡ short
+  unfolding read_at run after
   at-short h = rw (drop_of_length-le s {i = at} h)
 
-  pub at-pass : at < length s → c.holds (get_or s at 0) ≡ true → readAt (byte c f) s at ≡ readAt (f (get_or s at 0)) s (at + 1)
-  unfolding readAt
+  pub at-pass : at < length s → c.holds (get_or s at 0) ≡ true → read_at (byte c f) s at ≡ read_at (f (get_or s at 0)) s (at + 1)
+  unfolding read_at
   at-pass h q =
       ap (after at) (ap (run (byte c f)) (drop-cons s at 0 h) ∙ run-pass c f (get_or s at 0) (drop (suc at) s) q)
       ∙ rw (add-one at) (rw (add-one at) at (after_next at (run (f (get_or s at 0)) (drop (suc at) s))))
 
-  pub at-fail : at < length s → c.holds (get_or s at 0) ≡ false → readAt (byte c f) s at ≡ bad c.fault at
-  unfolding readAt after
+  pub at-fail : at < length s → c.holds (get_or s at 0) ≡ false → read_at (byte c f) s at ≡ bad c.fault at
+  unfolding read_at after
   at-fail h q =
       ap (after at) (ap (run (byte c f)) (drop-cons s at 0 h) ∙ run-fail c f (get_or s at 0) (drop (suc at) s) q)
       ∙ ap (bad c.fault) {x = at + 0} {y = at} (omega arith)
@@ -69,42 +69,42 @@ module _ {A : Type 0} (c : Test) (f : ℕ → Reader A) (s : List ℕ) (at : ℕ
 
 module _ {A B : Type 0} (k : A → Reader B) where
   next-then : (b : ℕ) (s : List ℕ) (x : Answer A)
-      → next (and_then x (λ v n. readAt (k v) s n)) ≡ and_then (next x) (λ v n. readAt (k v) (b ∷ s) n)
-  unfolding and_then next readAt
+      → next (and_then x (λ v n. read_at (k v) s n)) ≡ and_then (next x) (λ v n. read_at (k v) (b ∷ s) n)
+  unfolding and_then next read_at
   next-then b s (ok v n) = sym (after-suc n (run (k v) (drop n s)))
   next-then b s short = refl
   next-then b s (bad j p) = refl
 
   -- the second goes on where the first ended
-  pub run_bind : (r : Reader A) (s : List ℕ) → run (bind r k) s ≡ and_then (run r s) (λ v n. readAt (k v) s n)
+  pub run_bind : (r : Reader A) (s : List ℕ) → run (bind r k) s ≡ and_then (run r s) (λ v n. read_at (k v) s n)
   unfolding run bind and_then
   run_bind (done v) s = sym (at-start (k v) s)
   run_bind (byte c f) [] = refl
   run_bind (byte c f) (b ∷ s) = go (c.holds b) (run_bind (f b) s)
     where
-      go : (t : Bool) → run (bind (f b) k) s ≡ and_then (run (f b) s) (λ v n. readAt (k v) s n)
+      go : (t : Bool) → run (bind (f b) k) s ≡ and_then (run (f b) s) (λ v n. read_at (k v) s n)
           → elim t as (λ x. Answer B) [ true ↦ next (run (bind (f b) k) s) | false ↦ bad c.fault 0 ]
-          ≡ and_then (elim t as (λ x. Answer A) [ true ↦ next (run (f b) s) | false ↦ bad c.fault 0 ]) (λ v n. readAt (k v) (b ∷ s) n)
+          ≡ and_then (elim t as (λ x. Answer A) [ true ↦ next (run (f b) s) | false ↦ bad c.fault 0 ]) (λ v n. read_at (k v) (b ∷ s) n)
       go true e = ap next e ∙ next-then b s (run (f b) s)
       go false e = refl
 
   after_then : (s : List ℕ) (at : ℕ) (x : Answer A)
-      → after at (and_then x (λ v n. readAt (k v) (drop at s) n)) ≡ and_then (after at x) (λ v n. readAt (k v) s n)
-  unfolding and_then after readAt
+      → after at (and_then x (λ v n. read_at (k v) (drop at s) n)) ≡ and_then (after at x) (λ v n. read_at (k v) s n)
+  unfolding and_then after read_at
   after_then s at (ok v n) = after-after at n (run (k v) (drop n (drop at s))) ∙ ap (λ t. after (at + n) (run (k v) t)) (drop-drop n at s)
   after_then s at short = refl
   after_then s at (bad j p) = refl
 
-  pub at-bind : (r : Reader A) (s : List ℕ) (at : ℕ) → readAt (bind r k) s at ≡ and_then (readAt r s at) (λ v n. readAt (k v) s n)
-  unfolding readAt
+  pub at-bind : (r : Reader A) (s : List ℕ) (at : ℕ) → read_at (bind r k) s at ≡ and_then (read_at r s at) (λ v n. read_at (k v) s n)
+  unfolding read_at
   at-bind r s at = ap (after at) (run_bind r (drop at s)) ∙ after_then s at (run r (drop at s))
 
 module _ {A B : Type 0} (g : A → B) where
-  pub at_map : (r : Reader A) (s : List ℕ) (at : ℕ) → readAt (map g r) s at ≡ mapped g (readAt r s at)
+  pub at_map : (r : Reader A) (s : List ℕ) (at : ℕ) → read_at (map g r) s at ≡ mapped g (read_at r s at)
   unfolding map and_then mapped
-  at_map r s at = at-bind (λ v. done (g v)) r s at ∙ go (readAt r s at)
+  at_map r s at = at-bind (λ v. done (g v)) r s at ∙ go (read_at r s at)
     where
-      go : (x : Answer A) → and_then x (λ v n. readAt (done (g v)) s n) ≡ mapped g x
+      go : (x : Answer A) → and_then x (λ v n. read_at (done (g v)) s n) ≡ mapped g x
       go (ok v n) = at_done (g v) s n
       go short = refl
       go (bad k p) = refl
@@ -112,26 +112,26 @@ module _ {A B : Type 0} (g : A → B) where
 -- one more of a list
 module _ {A : Type 0} (s : List ℕ) (at : ℕ) where
   rest-map : (x : Answer A) (r : Reader (List A))
-      → and_then x (λ v n. readAt (map (λ vs. v ∷ vs) r) s n) ≡ and_then x (λ v n. mapped (λ vs. v ∷ vs) (readAt r s n))
+      → and_then x (λ v n. read_at (map (λ vs. v ∷ vs) r) s n) ≡ and_then x (λ v n. mapped (λ vs. v ∷ vs) (read_at r s n))
   unfolding and_then
   rest-map (ok v n) r = at_map (λ vs. v ∷ vs) r s n
   rest-map short r = refl
   rest-map (bad k p) r = refl
 
   pub at_each : {I : Type 0} (i : I) (l : List I) (f : I → Reader A)
-      → readAt (each (i ∷ l) f) s at ≡ and_then (readAt (f i) s at) (λ v n. mapped (λ vs. v ∷ vs) (readAt (each l f) s n))
+      → read_at (each (i ∷ l) f) s at ≡ and_then (read_at (f i) s at) (λ v n. mapped (λ vs. v ∷ vs) (read_at (each l f) s n))
   unfolding each
-  at_each i l f = at-bind _ (f i) s at ∙ rest-map (readAt (f i) s at) (each l f)
+  at_each i l f = at-bind _ (f i) s at ∙ rest-map (read_at (f i) s at) (each l f)
 
   pub at-times : (n : ℕ) (r : Reader A)
-      → readAt (times (suc n) r) s at ≡ and_then (readAt r s at) (λ v m. mapped (λ vs. v ∷ vs) (readAt (times n r) s m))
+      → read_at (times (suc n) r) s at ≡ and_then (read_at r s at) (λ v m. mapped (λ vs. v ∷ vs) (read_at (times n r) s m))
   unfolding times
-  at-times n r = at-bind _ r s at ∙ rest-map (readAt r s at) (times n r)
+  at-times n r = at-bind _ r s at ∙ rest-map (read_at r s at) (times n r)
 
 -- ---- By the first part's answer
 
 module _ {A B : Type 0} (r : Reader A) (k : A → Reader B) (s : List ℕ) (at : ℕ) where
-  pub at-bind-ok : {v : A} {n : ℕ} → readAt r s at ≡ ok v n → readAt (bind r k) s at ≡ readAt (k v) s n
+  pub at-bind-ok : {v : A} {n : ℕ} → read_at r s at ≡ ok v n → read_at (bind r k) s at ≡ read_at (k v) s n
   unfolding and_then
   at-bind-ok e = rw e at (at-bind k r s at)
 
@@ -157,12 +157,12 @@ module _ {A : Type 0} (r : Reader A) (s : List ℕ) (at : ℕ) where
   within_by short e q h = impossible (cc)
   within_by (bad k p) e q h = impossible (cc)
 
-  pub at-within : {v : A} {n : ℕ} → readAt r s at ≡ ok v n → at ≤ length s → (at ≤ n) × (n ≤ length s)
-  unfolding readAt
+  pub at-within : {v : A} {n : ℕ} → read_at r s at ≡ ok v n → at ≤ length s → (at ≤ n) × (n ≤ length s)
+  unfolding read_at
   at-within e h = within_by (run r (drop at s)) refl e h
 
 module _ {A B : Type 0} (r : Reader A) (k : A → Reader B) (s : List ℕ) where
-  pub bind_ok : {v : A} {n : ℕ} → run r s ≡ ok v n → run (bind r k) s ≡ readAt (k v) s n
+  pub bind_ok : {v : A} {n : ℕ} → run r s ≡ ok v n → run (bind r k) s ≡ read_at (k v) s n
   unfolding and_then
   bind_ok e = rw e at (run_bind k r s)
 
@@ -188,10 +188,10 @@ free-short (suc n) [] h = refl
 free-short (suc n) (b ∷ s) h = free-suc n b s ∙ ap (λ x. next (mapped (λ vs. b ∷ vs) x)) (free-short n s (omega arith))
 
 module _ (n : ℕ) (s : List ℕ) (at : ℕ) where
-  pub at-free : at + n ≤ length s → readAt (free n) s at ≡ ok (take n (drop at s)) (at + n)
-  unfolding readAt after
+  pub at-free : at + n ≤ length s → read_at (free n) s at ≡ ok (take n (drop at s)) (at + n)
+  unfolding read_at after
   at-free h = ap (after at) (free-ok n (drop at s) (simp length-drop (omega arith)))
 
-  pub at-free-short : length s - at < n → readAt (free n) s at ≡ short
-  unfolding readAt after
+  pub at-free-short : length s - at < n → read_at (free n) s at ≡ short
+  unfolding read_at after
   at-free-short h = ap (after at) (free-short n (drop at s) (simp length-drop (omega arith)))

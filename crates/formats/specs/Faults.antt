@@ -12,13 +12,13 @@ use Rattle.std.specs.Float.Ieee.Fits.{and_l, and_r}
 use Rattle.std.proofs.Math.Pow.{are_bytes}
 use Rattle.std.proofs.lemmas.Bool.{eqb-false}
 use Rattle.formats.specs.Bytes.{Bytes, bytes_drop, impossible}
-use Rattle.formats.specs.Reader.{Test, Reader, done, Answer, ok, short, bad, next, after, run, readAt, bind, map, each, times, one, any, free, literal, is}
+use Rattle.formats.specs.Reader.{Test, Reader, done, Answer, ok, short, bad, next, after, run, read_at, bind, map, each, times, one, any, free, literal, is}
 use Rattle.formats.specs.Law.{run-fail, refused}
 use Rattle.formats.specs.Compose.{bind_ok}
 use Rattle.formats.specs.Told.{run-bind-failed}
 use Rattle.formats.specs.declared.Failure.TheVariants.{Short, Bad}
 use Rattle.formats.specs.Number.{number}
-use Rattle.formats.specs.Writes.{Writes, All, Each, encodeEach, read-written, written_read, writes_one}
+use Rattle.formats.specs.Writes.{Writes, All, Each, encode_each, read-written, written_read, writes_one}
 
 -- `Breaks before b k`: behind the bytes `before`, the byte b breaks the rule of number k.
 -- The reader refuses b with k there, whatever follows, and refuses nothing else.
@@ -70,7 +70,7 @@ module _ {A B : Type 0} (r : Reader A) (k : A → Reader B) where
   stopped-second s {n = n} {j = j} {p = p} (bad i m) e g q = let a : i ≡ j = cc in let h : n + m ≡ p = cc in second e (g ∙ ap (λ x. bad x m) a) h
 
   stopped_by : (s : List ℕ) {j p : ℕ} (x : Answer A) → run r s ≡ x → run (bind r k) s ≡ bad j p → Stopped s j p
-  unfolding readAt
+  unfolding read_at
   stopped_by s (ok v n) e g = stopped-second s (run (k v) (drop n s)) e refl (sym (bind_ok r k s e) ∙ g)
   stopped_by s short e g = impossible (cc (run-bind-failed r k s Short e))
   stopped_by s {j} {p} (bad i m) e g =
@@ -118,7 +118,7 @@ module _ {A B : Type 0} {r : Reader A} {encode : A → List ℕ} {Valid : A → 
       rw (← z) (later v (take q (drop n s)) o.0 (take-add n q s ∙ ap (λ l. l ++ take q (drop n s)) o.1) (rw get_or-drop at g))
 
   bind-refuses : (before : List ℕ) (b j : ℕ) (t : List ℕ) → Then encode Valid Breaks Breaks' before b j → run (bind r k) (before ++ b ∷ t) ≡ bad j (length before)
-  unfolding after readAt
+  unfolding after read_at
   bind-refuses before b j t (here x) = run-bind-failed r k (before ++ b ∷ t) (Bad j (length before)) (f.refuses before b j t x)
   bind-refuses before b j t (later v rest h e x) =
       rw (e, append_assoc (encode v) rest (b ∷ t), length-append (encode v) rest)
@@ -216,7 +216,7 @@ pub record InPart {I A : Type 0} (encode : I → A → List ℕ) (Valid : I → 
   pub values : List A
   pub valid : Each Valid (take place l) values
   pub rest : List ℕ
-  pub written : before ≡ encodeEach encode (take place l) values ++ rest
+  pub written : before ≡ encode_each encode (take place l) values ++ rest
   pub broken : Breaks (get_or l place none) rest b k
 
 module _ {I A : Type 0} {f : I → Reader A} {encode : I → A → List ℕ} {Valid : I → A → Type 0} (w : (i : I) → Writes (f i) (encode i) (Valid i))
@@ -228,7 +228,7 @@ module _ {I A : Type 0} {f : I → Reader A} {encode : I → A → List ℕ} {Va
   Parted i l = Then (encode i) (Valid i) (Breaks i) (λ v. Part l)
 
   part-to : (i : I) (l : List I) (before : List ℕ) (b k : ℕ) → Parted i l before b k → Part (i ∷ l) before b k
-  unfolding encodeEach
+  unfolding encode_each
   part-to i l before b k (here x) = record { place = 0; within = omega arith; values = []; valid = tt; rest = before; written = refl; broken = x }
   part-to i l before b k (later v rest h e x) = record {
     place = suc x.place;
@@ -241,15 +241,15 @@ module _ {I A : Type 0} {f : I → Reader A} {encode : I → A → List ℕ} {Va
   }
 
   part-from : (i : I) (l : List I) (before : List ℕ) (b k : ℕ) → Part (i ∷ l) before b k → Parted i l before b k
-  unfolding encodeEach
+  unfolding encode_each
   part-from i l before b k x = go x.place x.values x.within x.valid x.written x.broken
     where
-      go : (n : ℕ) (vs : List A) → n < suc (length l) → Each Valid (take n (i ∷ l)) vs → before ≡ encodeEach encode (take n (i ∷ l)) vs ++ x.rest
+      go : (n : ℕ) (vs : List A) → n < suc (length l) → Each Valid (take n (i ∷ l)) vs → before ≡ encode_each encode (take n (i ∷ l)) vs ++ x.rest
           → Breaks (get_or (i ∷ l) n none) x.rest b k → Parted i l before b k
       go zero vs q h e y = here (rw e y)
       go (suc n) [] q h e y = absurd h
       go (suc n) (v ∷ vs) q h e y =
-          later v (encodeEach encode (take n l) vs ++ x.rest) h.0 (e ∙ append_assoc (encode i v) _ x.rest)
+          later v (encode_each encode (take n l) vs ++ x.rest) h.0 (e ∙ append_assoc (encode i v) _ x.rest)
           (record { place = n; within = omega arith; values = vs; valid = h.1; rest = x.rest; written = refl; broken = y })
 
   pub faults-each : (l : List I) → Faults (each l f) (Part l)

@@ -4,7 +4,7 @@ use Rattle.std.proofs.Common.{sym, ap, ◌∙◌, arith, le-leb}
 use Rattle.std.proofs.Math.Logic.{by_cases}
 use Rattle.std.proofs.Math.Decide.{dec_lt}
 use Rattle.std.proofs.lemmas.Bool.{lt-leb}
-use Rattle.formats.specs.Reader.{Reader, done, readAt, bind, map, times}
+use Rattle.formats.specs.Reader.{Reader, done, read_at, bind, map, times}
 use Rattle.formats.specs.Compose.{at_done}
 use Rattle.formats.specs.Told.{told, told-done, bind_done, bind-failed, map-told}
 use Rattle.formats.specs.declared.Failure.TheVariants.{Short}
@@ -17,7 +17,7 @@ ends s at n = cond (leb (at + n) (length s)) (Done (at + n)) (Failed Short)
 
 -- r reads n bytes, whatever they are
 abbrev pub Jumps : {A : Type 0} → Reader A → ℕ → Type 0
-Jumps r n = (s : List ℕ) (at : ℕ) → at ≤ length s → told (readAt r s at) ≡ ends s at n
+Jumps r n = (s : List ℕ) (at : ℕ) → at ≤ length s → told (read_at r s at) ≡ ends s at n
 
 module _ (s : List ℕ) (at n : ℕ) where
   pub ends_there : at + n ≤ length s → ends s at n ≡ Done (at + n)
@@ -46,7 +46,7 @@ module _ {A B : Type 0} (r : Reader A) (k : A → Reader B) (n m : ℕ) where
       (dec_lt (length s) (at + n))
       (λ q. bind-failed r k s at (sym (f s at h ∙ ends-short s at n q)) ∙ sym (ends-short s at (n + m) (omega arith)))
       (λ q.
-      let x = told-done (readAt r s at) (sym (f s at h ∙ ends_there s at n (omega arith))) in
+      let x = told-done (read_at r s at) (sym (f s at h ∙ ends_there s at n (omega arith))) in
       bind_done r k s at x.1 ∙ g x.0 s (at + n) (omega arith) ∙ ends-sum s at n m)
 
 pub jumps-map : {A B : Type 0} (g : A → B) (r : Reader A) (n : ℕ) → Jumps r n → Jumps (map g r) n

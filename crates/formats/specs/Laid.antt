@@ -15,8 +15,8 @@ pub record Laid (s : List ℕ) (at : ℕ) (b t : List ℕ) (end : ℕ) : Type 0 
   pub bytes : t ≡ puts s at b
 
 -- as much of b as there is room for is put from a place on, and its end is answered
-abbrev pub putWithin : (s : List ℕ) (at : ℕ) (b : List ℕ) → Writing ℕ
-putWithin s at b = writing (at + length (take (length s - at) b)) (puts s at (take (length s - at) b))
+abbrev pub put_within : (s : List ℕ) (at : ℕ) (b : List ℕ) → Writing ℕ
+put_within s at b = writing (at + length (take (length s - at) b)) (puts s at (take (length s - at) b))
 
 -- ---- One string behind the other
 
@@ -92,11 +92,11 @@ module _ {s : List ℕ} (start : ℕ) (b : List ℕ) {t : List ℕ} (i : ℕ) wh
 -- ---- As much as there is room for
 
 module _ {s : List ℕ} {at : ℕ} (b : List ℕ) {t : List ℕ} {end : ℕ} where
-  pub laid-within : Laid s at (take (length s - at) b) t end → writing end t ≡ putWithin s at b
+  pub laid-within : Laid s at (take (length s - at) b) t end → writing end t ≡ put_within s at b
   laid-within l = rw (l.place, l.bytes)
 
   -- which is all where there is room for all
-  pub within-laid : Room s at b → writing end t ≡ putWithin s at b → Laid s at b t end
+  pub within-laid : Room s at b → writing end t ≡ put_within s at b → Laid s at b t end
   within-laid h e =
       let z : take (length s - at) b ≡ b = take_all (length s - at) b (omega (arith, h.enough)) in
       record { place = rw z at (ap (λ w. w.answer) e); bytes = rw z at (ap (λ w. w.bytes) e) }

@@ -7,7 +7,7 @@ use Rattle.std.proofs.Math.Decide.{dec_lt}
 use native.Mathlib.Omega.{arith}
 use Rattle.std.proofs.Math.ListN.{length-drop}
 use Rattle.std.proofs.Math.Seq.{get_or-drop}
-use Rattle.formats.specs.Reader.{Reader, done, ok, short, after, run, readAt, bind, map, one, any, next}
+use Rattle.formats.specs.Reader.{Reader, done, ok, short, after, run, read_at, bind, map, one, any, next}
 use Rattle.formats.specs.Compose.{bind_ok}
 use Rattle.formats.specs.Told.{run-bind-failed}
 use Rattle.formats.specs.declared.Failure.TheVariants.{Short}
@@ -36,13 +36,13 @@ unfolding run one map bind next
 digit_ok n a s h = rw (drop-cons s n 0 h)
 
 pub number_ok : (n : ℕ) (s : List ℕ) → n ≤ length s → run (number n) s ≡ ok (value n s) n
-unfolding number run value after readAt
+unfolding number run value after read_at
 number_ok zero s h = refl
 number_ok (suc n) s h =
     bind_ok (number n) _ s (number_ok n s (omega arith)) ∙ ap (after n) (digit_ok n (value n s) s h) ∙ ap (ok (value (suc n) s)) {x = n + 1} {y = suc n} (omega arith)
 
 pub number_short : (n : ℕ) (s : List ℕ) → length s < n → run (number n) s ≡ short
-unfolding number run one map bind after readAt
+unfolding number run one map bind after read_at
 number_short zero s h = absurd (omega arith)
 number_short (suc n) s h =
     by_cases
@@ -53,12 +53,12 @@ number_short (suc n) s h =
     ∙ ap (λ t. after n (run (map (λ b. value n s * 256 + b) (one any)) t)) (drop_of_length-le s {i = n} (omega arith)))
 
 module _ (n : ℕ) (s : List ℕ) (at : ℕ) where
-  pub at-number : at + n ≤ length s → readAt (number n) s at ≡ ok (value n (drop at s)) (at + n)
-  unfolding readAt after
+  pub at-number : at + n ≤ length s → read_at (number n) s at ≡ ok (value n (drop at s)) (at + n)
+  unfolding read_at after
   at-number h = ap (after at) (number_ok n (drop at s) (simp length-drop (omega arith)))
 
-  pub at-number-short : length s - at < n → readAt (number n) s at ≡ short
-  unfolding readAt after
+  pub at-number-short : length s - at < n → read_at (number n) s at ≡ short
+  unfolding read_at after
   at-number-short h = ap (after at) (number_short n (drop at s) (simp length-drop (omega arith)))
 
 -- the number that one byte makes, and two, and three

@@ -55,8 +55,8 @@ run (byte c f) [] = short
 run (byte c f) (b ∷ s) = elim (c.holds b) [ true ↦ next (run (f b) s) | false ↦ bad c.fault 0 ]
 
 -- from a place of s, with lengths and places counted from the start of s
-unfoldable pub readAt : {A : Type 0} → Reader A → List ℕ → ℕ → Answer A
-readAt r s at = after at (run r (drop at s))
+unfoldable pub read_at : {A : Type 0} → Reader A → List ℕ → ℕ → Answer A
+read_at r s at = after at (run r (drop at s))
 
 -- ---- Formats
 

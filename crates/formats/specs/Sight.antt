@@ -19,9 +19,9 @@ unfoldable pub Same : {A : Type 0} → Reader A → (s t : List ℕ) → (at : �
 Same r s t at = seen r s at ≡ take (asked r (drop at s)) (drop at t)
 
 -- how many that is where reading failed, of a string of some size: as many as are there, or up to and with the byte that is refused
-abbrev pub failedSight : (size at : ℕ) → Failure → ℕ
-failedSight size at Short = size - at
-failedSight size at (Bad k p) = p - at + 1
+abbrev pub failed_sight : (size at : ℕ) → Failure → ℕ
+failed_sight size at Short = size - at
+failed_sight size at (Bad k p) = p - at + 1
 
 -- a byte that is refused is there
 abbrev pub FailedWithin : (size at : ℕ) → Failure → Type 0

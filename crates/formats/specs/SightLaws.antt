@@ -9,12 +9,12 @@ use native.Mathlib.Omega.{arith}
 use Rattle.std.proofs.Math.ListN.{length, take, length-drop}
 use Rattle.std.proofs.Math.Seq.{length-take-le}
 use Rattle.formats.specs.Bytes.{Bytes, bytes-append, bytes_take, bytes_drop, impossible}
-use Rattle.formats.specs.Reader.{Reader, done, byte, Answer, ok, short, bad, next, after, run, readAt}
+use Rattle.formats.specs.Reader.{Reader, done, byte, Answer, ok, short, bad, next, after, run, read_at}
 use Rattle.formats.specs.Law.{Reads, Begun, whole, refused, reads-take, short-iff}
 use Rattle.formats.specs.Compose.{at-start}
 use Rattle.formats.specs.Told.{failed}
 use Rattle.formats.specs.Fixed.{Fixed}
-use Rattle.formats.specs.Sight.{asked, seen, Same, failedSight, FailedWithin}
+use Rattle.formats.specs.Sight.{asked, seen, Same, failed_sight, FailedWithin}
 use Rattle.formats.specs.declared.Failure.{Failure}
 use Rattle.formats.specs.declared.Failure.TheVariants.{Short, Bad}
 
@@ -43,8 +43,8 @@ module _ {A : Type 0} where
       go false h (y ∷ t) e rest = let z : b ≡ y = cc in rw (← z, h) (refl, refl)
 
   module _ (r : Reader A) (s t : List ℕ) (at : ℕ) (e : Same r s t at) where
-    pub same_read : readAt r s at ≡ readAt r t at
-    unfolding readAt Same seen
+    pub same_read : read_at r s at ≡ read_at r t at
+    unfolding read_at Same seen
     same_read = ap (after at) (same-run r (drop at s) (drop at t) e).0
 
     pub same_seen : seen r s at ≡ seen r t at
@@ -54,25 +54,25 @@ module _ {A : Type 0} where
 -- ---- How many they are, by the answer
 
 module _ {A : Type 0} where
-  askedBy : List ℕ → Answer A → ℕ
-  askedBy s (ok v n) = n
-  askedBy s short = suc (length s)
-  askedBy s (bad k p) = suc p
+  asked_by : List ℕ → Answer A → ℕ
+  asked_by s (ok v n) = n
+  asked_by s short = suc (length s)
+  asked_by s (bad k p) = suc p
 
-  one_more : (b : ℕ) (s : List ℕ) (x : Answer A) → suc (askedBy s x) ≡ askedBy (b ∷ s) (next x)
-  unfolding askedBy next
+  one_more : (b : ℕ) (s : List ℕ) (x : Answer A) → suc (asked_by s x) ≡ asked_by (b ∷ s) (next x)
+  unfolding asked_by next
   one_more b s (ok v n) = refl
   one_more b s short = refl
   one_more b s (bad k p) = refl
 
-  asked_is : (r : Reader A) (s : List ℕ) → asked r s ≡ askedBy s (run r s)
-  unfolding asked run askedBy
+  asked_is : (r : Reader A) (s : List ℕ) → asked r s ≡ asked_by s (run r s)
+  unfolding asked run asked_by
   asked_is (done v) s = refl
   asked_is (byte c f) [] = refl
   asked_is (byte c f) (b ∷ s) = go (c.holds b) (asked_is (f b) s)
     where
-      go : (x : Bool) → asked (f b) s ≡ askedBy s (run (f b) s)
-          → elim x as (λ y. ℕ) [ true ↦ suc (asked (f b) s) | false ↦ 1 ] ≡ askedBy (b ∷ s) (elim x as (λ y. Answer A) [ true ↦ next (run (f b) s) | false ↦ bad c.fault 0 ])
+      go : (x : Bool) → asked (f b) s ≡ asked_by s (run (f b) s)
+          → elim x as (λ y. ℕ) [ true ↦ suc (asked (f b) s) | false ↦ 1 ] ≡ asked_by (b ∷ s) (elim x as (λ y. Answer A) [ true ↦ next (run (f b) s) | false ↦ bad c.fault 0 ])
       go true e = ap suc e ∙ one_more b s (run (f b) s)
       go false e = refl
 
@@ -81,22 +81,22 @@ module _ {A : Type 0} (r : Reader A) (s : List ℕ) (at : ℕ) where
   rest = drop at s
 
   -- those of what was read
-  pub seen-ok : {v : A} {n : ℕ} → readAt r s at ≡ ok v n → length (seen r s at) + at ≡ n
-  unfolding seen readAt after askedBy
+  pub seen-ok : {v : A} {n : ℕ} → read_at r s at ≡ ok v n → length (seen r s at) + at ≡ n
+  unfolding seen read_at after asked_by
   seen-ok {v} {n} e = rw (asked_is r rest) (go (run r rest) refl e)
     where
-      go : (x : Answer A) → run r rest ≡ x → after at x ≡ ok v n → length (take (askedBy rest x) rest) + at ≡ n
+      go : (x : Answer A) → run r rest ≡ x → after at x ≡ ok v n → length (take (asked_by rest x) rest) + at ≡ n
       go (ok u m) q g = let z : at + m ≡ n = cc in omega (arith, length-take-le m rest (whole r rest q).within)
       go short q g = impossible (cc)
       go (bad k p) q g = impossible (cc)
 
   -- as many as are there, or up to and with the one that is refused
-  pub seen-failed : (f : Failure) → readAt r s at ≡ failed f → (length (seen r s at) ≡ failedSight (length s) at f) × FailedWithin (length s) at f
-  unfolding seen readAt after askedBy
+  pub seen-failed : (f : Failure) → read_at r s at ≡ failed f → (length (seen r s at) ≡ failed_sight (length s) at f) × FailedWithin (length s) at f
+  unfolding seen read_at after asked_by
   seen-failed f e = rw (asked_is r rest) (go (run r rest) refl f e)
     where
       go : (x : Answer A) → run r rest ≡ x → (f : Failure) → after at x ≡ failed f
-          → (length (take (askedBy rest x) rest) ≡ failedSight (length s) at f) × FailedWithin (length s) at f
+          → (length (take (asked_by rest x) rest) ≡ failed_sight (length s) at f) × FailedWithin (length s) at f
       go (ok v n) q Short g = impossible (cc)
       go (ok v n) q (Bad k p) g = impossible (cc)
       go short q Short g = (ap length (take_all (suc (length rest)) rest (omega arith)) ∙ length-drop at s, tt)
@@ -114,8 +114,8 @@ unfolding seen
 seen-within r s at = omega (arith, length-take (asked r (drop at s)) (drop at s), length-drop at s)
 
 -- of what has one width, that
-pub seen-fixed : {A : Type 0} (r : Reader A) (w : ℕ) → Fixed r w → (s : List ℕ) (at : ℕ) {v : A} {n : ℕ} → readAt r s at ≡ ok v n → length (seen r s at) ≡ w
-unfolding seen readAt after
+pub seen-fixed : {A : Type 0} (r : Reader A) (w : ℕ) → Fixed r w → (s : List ℕ) (at : ℕ) {v : A} {n : ℕ} → read_at r s at ≡ ok v n → length (seen r s at) ≡ w
+unfolding seen read_at after
 seen-fixed {A} r w fixed s at {v} {n} e = go (run r (drop at s)) refl e
   where
     go : (x : Answer A) → run r (drop at s) ≡ x → after at x ≡ ok v n → length (take (asked r (drop at s)) (drop at s)) ≡ w
@@ -138,8 +138,8 @@ module _ {A : Type 0} (r : Reader A) (m : ℕ) (longest : (b : List ℕ) (v : A)
           let z = rw (length-append, e) at (longest (s ++ b.rest) b.value (bytes-append s b.rest g b.bytes) b.reads) in
           omega (arith, z)
 
-  no_more : (s : List ℕ) → Bytes s → (x : Answer A) → run r s ≡ x → length (take (askedBy s x) s) ≤ m
-  unfolding askedBy
+  no_more : (s : List ℕ) → Bytes s → (x : Answer A) → run r s ≡ x → length (take (asked_by s x) s) ≤ m
+  unfolding asked_by
   no_more s g (ok v n) e = longest (take n s) v (bytes_take n s g) (reads-take r s e)
   no_more s g short e = rw (take_all (suc (length s)) s (omega arith)) (omega (arith, begun s g e))
   no_more s g (bad k p) e =

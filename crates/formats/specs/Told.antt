@@ -12,7 +12,7 @@ use Rattle.std.proofs.Math.Pow.{are_bytes}
 use Rattle.std.specs.Float.Ieee.Fits.{and_r}
 use borrow.Author.Tests.{le-leb, lt-leb, eq-eqb, ne_eqb, eqb-true, eqb-false}
 use Rattle.formats.specs.Bytes.{impossible}
-use Rattle.formats.specs.Reader.{Reader, Answer, done, ok, short, bad, mapped, and_then, run, readAt, bind, map, each, times, literal}
+use Rattle.formats.specs.Reader.{Reader, Answer, done, ok, short, bad, mapped, and_then, run, read_at, bind, map, each, times, literal}
 use Rattle.formats.specs.Compose.{run_bind, at_done, at-short, at-pass, at-fail, at-bind, at_map, at-times, at-within, at-bind-ok}
 use Rattle.formats.specs.declared.Failure.{Failure}
 use Rattle.formats.specs.declared.Failure.TheVariants.{Short, Bad}
@@ -50,7 +50,7 @@ module _ {A B : Type 0} where
   pub run-bind-failed : (r : Reader A) (k : A → Reader B) (s : List ℕ) (f : Failure) → run r s ≡ failed f → run (bind r k) s ≡ failed f
   run-bind-failed r k s f e = rw e at (run_bind k r s) ∙ then-failed f _
 
-  pub at-bind-failed : (r : Reader A) (k : A → Reader B) (s : List ℕ) (at : ℕ) (f : Failure) → readAt r s at ≡ failed f → readAt (bind r k) s at ≡ failed f
+  pub at-bind-failed : (r : Reader A) (k : A → Reader B) (s : List ℕ) (at : ℕ) (f : Failure) → read_at r s at ≡ failed f → read_at (bind r k) s at ≡ failed f
   at-bind-failed r k s at f e = rw e at (at-bind k r s at) ∙ then-failed f _
 
 -- ---- What was told
@@ -75,35 +75,35 @@ module _ {A : Type 0} where
   told-failed short {f} e = ap failed {x = Short} {y = f} (cc)
   told-failed (bad k p) {f} e = ap failed {x = Bad k p} {y = f} (cc)
 
-pub map-told : {A B : Type 0} (g : A → B) (r : Reader A) (s : List ℕ) (at : ℕ) → told (readAt (map g r) s at) ≡ told (readAt r s at)
-map-told g r s at = ap told (at_map g r s at) ∙ told-mapped g (readAt r s at)
+pub map-told : {A B : Type 0} (g : A → B) (r : Reader A) (s : List ℕ) (at : ℕ) → told (read_at (map g r) s at) ≡ told (read_at r s at)
+map-told g r s at = ap told (at_map g r s at) ∙ told-mapped g (read_at r s at)
 
 -- a first part, by its answer
 module _ {A B : Type 0} (r : Reader A) (k : A → Reader B) (s : List ℕ) (at : ℕ) where
-  pub bind_done : {v : A} {n : ℕ} → readAt r s at ≡ ok v n → told (readAt (bind r k) s at) ≡ told (readAt (k v) s n)
+  pub bind_done : {v : A} {n : ℕ} → read_at r s at ≡ ok v n → told (read_at (bind r k) s at) ≡ told (read_at (k v) s n)
   bind_done e = ap told (at-bind-ok r k s at e)
 
-  pub bind-failed : {f : Failure} → Failed f ≡ told (readAt r s at) → told (readAt (bind r k) s at) ≡ Failed f
-  bind-failed {f} e = failed-told f (at-bind-failed r k s at f (told-failed (readAt r s at) e))
+  pub bind-failed : {f : Failure} → Failed f ≡ told (read_at r s at) → told (read_at (bind r k) s at) ≡ Failed f
+  bind-failed {f} e = failed-told f (at-bind-failed r k s at f (told-failed (read_at r s at) e))
 
 -- the next of a list of parts
 module _ {I A : Type 0} (i : I) (l : List I) (f : I → Reader A) (s : List ℕ) (at : ℕ) where
-  pub each-done : {n : ℕ} → Done n ≡ told (readAt (f i) s at) → told (readAt (each (i ∷ l) f) s at) ≡ told (readAt (each l f) s n)
+  pub each-done : {n : ℕ} → Done n ≡ told (read_at (f i) s at) → told (read_at (each (i ∷ l) f) s at) ≡ told (read_at (each l f) s n)
   unfolding each
-  each-done {n} e = let x = told-done (readAt (f i) s at) e in bind_done (f i) _ s at x.1 ∙ map-told (λ vs. x.0 ∷ vs) (each l f) s n
+  each-done {n} e = let x = told-done (read_at (f i) s at) e in bind_done (f i) _ s at x.1 ∙ map-told (λ vs. x.0 ∷ vs) (each l f) s n
 
-  pub each-failed : {g : Failure} → Failed g ≡ told (readAt (f i) s at) → told (readAt (each (i ∷ l) f) s at) ≡ Failed g
+  pub each-failed : {g : Failure} → Failed g ≡ told (read_at (f i) s at) → told (read_at (each (i ∷ l) f) s at) ≡ Failed g
   unfolding each
   each-failed e = bind-failed (f i) _ s at e
 
 -- a step from place to place, n times
-unfoldable pub thenTold : Outcome → (ℕ → Outcome) → Outcome
-thenTold (Done m) k = k m
-thenTold (Failed f) k = Failed f
+unfoldable pub then_told : Outcome → (ℕ → Outcome) → Outcome
+then_told (Done m) k = k m
+then_told (Failed f) k = Failed f
 
 unfoldable pub repeated : (ℕ → Outcome) → ℕ → ℕ → Outcome
 repeated step zero at = Done at
-repeated step (suc n) at = thenTold (step at) (repeated step n)
+repeated step (suc n) at = then_told (step at) (repeated step n)
 
 -- the ith of n steps, by how it ended
 module _ (step : ℕ → Outcome) (at i n : ℕ) where
@@ -111,11 +111,11 @@ module _ (step : ℕ → Outcome) (at i n : ℕ) where
   count h = omega arith
 
   pub repeated-done : {m : ℕ} → i < n → step at ≡ Done m → repeated step (n - i) at ≡ repeated step (n - (i + 1)) m
-  unfolding repeated thenTold
+  unfolding repeated then_told
   repeated-done {m} h e = rw (count h, e)
 
   pub repeated-failed : {f : Failure} → i < n → step at ≡ Failed f → repeated step (n - i) at ≡ Failed f
-  unfolding repeated thenTold
+  unfolding repeated then_told
   repeated-failed h e = rw (count h, e)
 
   pub repeated-none : n ≤ i → repeated step (n - i) at ≡ Done at
@@ -123,31 +123,31 @@ module _ (step : ℕ → Outcome) (at i n : ℕ) where
   repeated-none h = let z : n - i ≡ 0 = omega arith in rw z
 
 -- a part that starts in a string ends in it
-pub done-within : {A : Type 0} (r : Reader A) (s : List ℕ) (at : ℕ) {n : ℕ} → at ≤ length s → Done n ≡ told (readAt r s at) → (at ≤ n) × (n ≤ length s)
-done-within r s at h e = at-within r s at (told-done (readAt r s at) e).1 h
+pub done-within : {A : Type 0} (r : Reader A) (s : List ℕ) (at : ℕ) {n : ℕ} → at ≤ length s → Done n ≡ told (read_at r s at) → (at ≤ n) × (n ≤ length s)
+done-within r s at h e = at-within r s at (told-done (read_at r s at) e).1 h
 
 -- n equal parts are n steps
-module _ {A : Type 0} (r : Reader A) (s : List ℕ) (step : ℕ → Outcome) (one : (at : ℕ) → at ≤ length s → told (readAt r s at) ≡ step at) where
-  times-by : (n at : ℕ) (x : Outcome) → at ≤ length s → told (readAt r s at) ≡ x → ((m : ℕ) → m ≤ length s → told (readAt (times n r) s m) ≡ repeated step n m)
-      → told (readAt (times (suc n) r) s at) ≡ thenTold x (repeated step n)
-  unfolding times thenTold
+module _ {A : Type 0} (r : Reader A) (s : List ℕ) (step : ℕ → Outcome) (one : (at : ℕ) → at ≤ length s → told (read_at r s at) ≡ step at) where
+  times-by : (n at : ℕ) (x : Outcome) → at ≤ length s → told (read_at r s at) ≡ x → ((m : ℕ) → m ≤ length s → told (read_at (times n r) s m) ≡ repeated step n m)
+      → told (read_at (times (suc n) r) s at) ≡ then_told x (repeated step n)
+  unfolding times then_told
   times-by n at (Done m) h e rest =
-      let x = told-done (readAt r s at) (sym e) in
+      let x = told-done (read_at r s at) (sym e) in
       bind_done r _ s at x.1 ∙ map-told (λ vs. x.0 ∷ vs) (times n r) s m ∙ rest m (done-within r s at h (sym e)).1
   times-by n at (Failed f) h e rest = bind-failed r _ s at (sym e)
 
-  pub times-repeated : (n at : ℕ) → at ≤ length s → told (readAt (times n r) s at) ≡ repeated step n at
+  pub times-repeated : (n at : ℕ) → at ≤ length s → told (read_at (times n r) s at) ≡ repeated step n at
   unfolding told times repeated
   times-repeated zero at h = ap told (at_done [] s at)
   times-repeated (suc n) at h = times-by n at (step at) h (one at h) (times-repeated n)
 
 -- one time is the part itself
-pub once-told : {A : Type 0} (r : Reader A) (s : List ℕ) (at : ℕ) → told (readAt (times 1 r) s at) ≡ told (readAt r s at)
+pub once-told : {A : Type 0} (r : Reader A) (s : List ℕ) (at : ℕ) → told (read_at (times 1 r) s at) ≡ told (read_at r s at)
 unfolding times told and_then
-once-told {A} r s at = ap told (at-times s at 0 r) ∙ go (readAt r s at)
+once-told {A} r s at = ap told (at-times s at 0 r) ∙ go (read_at r s at)
   where
-    go : (x : Answer A) → told (and_then x (λ v n. mapped (λ vs. v ∷ vs) (readAt (done []) s n))) ≡ told x
-    go (ok v n) = told-mapped (λ vs. v ∷ vs) (readAt (done []) s n) ∙ ap told (at_done [] s n)
+    go : (x : Answer A) → told (and_then x (λ v n. mapped (λ vs. v ∷ vs) (read_at (done []) s n))) ≡ told x
+    go (ok v n) = told-mapped (λ vs. v ∷ vs) (read_at (done []) s n) ∙ ap told (at_done [] s n)
     go short = refl
     go (bad k p) = refl
 
@@ -169,7 +169,7 @@ module _ (s : List ℕ) (at b : ℕ) (l : List ℕ) (k : ℕ) where
   unfolding matched
   matched-next h e = rw (lt-leb (length s) at h, eq-eqb (get_or s at 0) b e)
 
-pub literal-told : (k : ℕ) (l : List ℕ) (h : T (are_bytes l)) (s : List ℕ) (at : ℕ) → told (readAt (literal k l h) s at) ≡ matched s at l k
+pub literal-told : (k : ℕ) (l : List ℕ) (h : T (are_bytes l)) (s : List ℕ) (at : ℕ) → told (read_at (literal k l h) s at) ≡ matched s at l k
 unfolding literal matched told
 literal-told k [] h s at = ap told (at_done tt s at)
 literal-told k (b ∷ l) h s at =
@@ -178,8 +178,8 @@ literal-told k (b ∷ l) h s at =
     (λ q. by-test q (eqb (get_or s at 0) b) refl (λ g. literal-told k l g s (at + 1)))
     (λ q. ap told (at-short _ _ s at (omega arith)) ∙ sym (matched-short s at b l k (omega arith)))
   where
-    by-test : at < length s → (t : Bool) → eqb (get_or s at 0) b ≡ t → ((g : T (are_bytes l)) → told (readAt (literal k l g) s (at + 1)) ≡ matched s (at + 1) l k)
-        → told (readAt (literal k (b ∷ l) h) s at) ≡ matched s at (b ∷ l) k
+    by-test : at < length s → (t : Bool) → eqb (get_or s at 0) b ≡ t → ((g : T (are_bytes l)) → told (read_at (literal k l g) s (at + 1)) ≡ matched s (at + 1) l k)
+        → told (read_at (literal k (b ∷ l) h) s at) ≡ matched s at (b ∷ l) k
     by-test q true e rest =
         ap told (at-pass _ _ s at q e) ∙ rest (and_r (ltb b 256) (are_bytes l) h) ∙ sym (matched-next s at b l k q (eqb-true (get_or s at 0) b e))
     by-test q false e rest = ap told (at-fail _ _ s at q e) ∙ sym (matched-bad s at b l k q (eqb-false (get_or s at 0) b e))

@@ -11,7 +11,7 @@ use Rattle.std.proofs.Math.Seq.{drop-append_seam}
 use Rattle.std.specs.Float.Ieee.Fits.{and_l, and_r}
 use Rattle.std.proofs.Math.Pow.{are_bytes}
 use Rattle.formats.specs.Bytes.{Bytes, bytes-nil, bytes-cons, bytes-append, bytes_take, bytes_drop, impossible}
-use Rattle.formats.specs.Reader.{Test, Reader, done, Answer, ok, short, bad, next, after, run, readAt, bind, map, each, times, one, any, free, literal, is}
+use Rattle.formats.specs.Reader.{Test, Reader, done, Answer, ok, short, bad, next, after, run, read_at, bind, map, each, times, one, any, free, literal, is}
 use Rattle.formats.specs.Law.{Reads, run-pass, reads-append, reads-take}
 use Rattle.formats.specs.Compose.{bind_ok}
 use Rattle.formats.specs.Told.{run-bind-failed}
@@ -30,7 +30,7 @@ module _ {A B : Type 0} (r : Reader A) (k : A → Reader B) where
   -- ---- A string of two parts
 
   pub reads-join : (b c : List ℕ) {v : A} {w : B} → Reads r b v → Reads (k v) c w → Reads (bind r k) (b ++ c) w
-  unfolding after readAt
+  unfolding after read_at
   reads-join b c {v} {w} e g =
       bind_ok r k (b ++ c) (reads-append r b c e)
       ∙ ap (after (length b)) (ap (run (k v)) (drop-append_seam b c) ∙ g)
@@ -53,7 +53,7 @@ module _ {A B : Type 0} (r : Reader A) (k : A → Reader B) where
   split-second b (bad j p) e g q = impossible (cc)
 
   split-first : (b : List ℕ) {w : B} (x : Answer A) → run r b ≡ x → Reads (bind r k) b w → Split b w
-  unfolding readAt
+  unfolding read_at
   split-first b (ok v n) e g = split-second b (run (k v) (drop n b)) e refl (sym (bind_ok r k b e) ∙ g)
   split-first b short e g = impossible (cc (run-bind-failed r k b Short e))
   split-first b (bad j p) e g = impossible (cc (run-bind-failed r k b (Bad j p) e))
@@ -199,10 +199,10 @@ Each P [] (v ∷ vs) = ⊥
 Each P (i ∷ l) [] = ⊥
 Each P (i ∷ l) (v ∷ vs) = P i v × Each P l vs
 
-unfoldable pub encodeEach : {I A : Type 0} → (I → A → List ℕ) → List I → List A → List ℕ
-encodeEach encode [] vs = []
-encodeEach encode (i ∷ l) [] = []
-encodeEach encode (i ∷ l) (v ∷ vs) = encode i v ++ encodeEach encode l vs
+unfoldable pub encode_each : {I A : Type 0} → (I → A → List ℕ) → List I → List A → List ℕ
+encode_each encode [] vs = []
+encode_each encode (i ∷ l) [] = []
+encode_each encode (i ∷ l) (v ∷ vs) = encode i v ++ encode_each encode l vs
 
 module _ {I A : Type 0} {f : I → Reader A} {encode : I → A → List ℕ} {Valid : I → A → Type 0} (w : (i : I) → Writes (f i) (encode i) (Valid i)) where
   each_none : (vs : List A) → Each Valid [] vs → ◌≡◌ {A = List A} [] vs
@@ -210,8 +210,8 @@ module _ {I A : Type 0} {f : I → Reader A} {encode : I → A → List ℕ} {Va
   each_none (v ∷ vs) h = absurd h
 
   each-whole : (i : I) (l : List I) (v : A) (vs : List A) → Valid i v → Each Valid l (tail vs) × (v ∷ tail vs ≡ vs)
-      → Each Valid (i ∷ l) vs × (encode i v ++ encodeEach encode l (tail vs) ≡ encodeEach encode (i ∷ l) vs)
-  unfolding encodeEach
+      → Each Valid (i ∷ l) vs × (encode i v ++ encode_each encode l (tail vs) ≡ encode_each encode (i ∷ l) vs)
+  unfolding encode_each
   each-whole i l v [] h q = impossible (cc q.1)
   each-whole i l v (u ∷ us) h q = let t : v ≡ u = cc q.1 in rw (← t) ((h, q.0), refl)
 
@@ -219,8 +219,8 @@ module _ {I A : Type 0} {f : I → Reader A} {encode : I → A → List ℕ} {Va
   each-parts i l [] h = absurd h
   each-parts i l (v ∷ vs) h = (v, h.0, (h.1, refl))
 
-  pub writes-each : (l : List I) → Writes (each l f) (encodeEach encode l) (Each Valid l)
-  unfolding each encodeEach
+  pub writes-each : (l : List I) → Writes (each l f) (encode_each encode l) (Each Valid l)
+  unfolding each encode_each
   writes-each [] = writes_as (writes-done []) (λ vs e. rw (← e) (tt, refl)) each_none
   writes-each (i ∷ l) = writes-bind (w i) (λ v h. writes-map (writes-each l) (λ vs. v ∷ vs) tail (λ vs q. refl)) (each-whole i l) (each-parts i l)
 

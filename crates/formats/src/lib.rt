@@ -1,7 +1,7 @@
 // What a byte format is. Its theory is in specs/; the code of a format tells how reading it ended.
 ghost use Rattle.std.specs.Prelude.{◌≡◌, leb, ◌+◌, ◌*◌, ◌/◌, ◌%◌};
 ghost use Rattle.formats.specs.Lent.{writing};
-ghost use Rattle.formats.specs.Laid.{putWithin};
+ghost use Rattle.formats.specs.Laid.{put_within};
 
 // How reading fails.
 #[derive(Drop)]
@@ -53,7 +53,7 @@ pub fn is_within(count: usize, size: usize, room: usize) -> bool
 
 // Bytes are put from a place of the output on, as many of them as there is room for. Where the next would go is answered.
 pub fn put(out: &mut [u8], start: usize, bytes: &[u8]) -> usize
-    ensures { writing result out.new ≡ putWithin out.old start bytes.now }
+    ensures { writing result out.new ≡ put_within out.old start bytes.now }
 {
     if out.len() <= start {
         return start;

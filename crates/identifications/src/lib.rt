@@ -1,6 +1,6 @@
 // What a full record begins with: the format identifier and the version (7.3.2, 7.3.3), found from any place of some bytes.
 ghost use Rattle.std.specs.Prelude.{◌≡◌, ◌≤◌, length};
-ghost use Rattle.formats.specs.Reader.{readAt};
+ghost use Rattle.formats.specs.Reader.{read_at};
 ghost use Rattle.formats.specs.Told.{told, matched};
 ghost use Rattle.identifications.specs.Identification.{identification};
 
@@ -26,7 +26,7 @@ fn bytes_at(s: &[u8], start: usize, expected: [u8; 4], fault: u8) -> Outcome
 
 // Where the format identifier and the version end that stand from a place on (7.3.2, 7.3.3).
 pub fn end(bytes: &[u8], start: usize) -> Outcome
-    ensures { result ≡ told (readAt identification bytes.now start) }
+    ensures { result ≡ told (read_at identification bytes.now start) }
 {
     if bytes.len() < start {
         return Outcome::Failed(Failure::Short);

@@ -8,19 +8,19 @@ use Rattle.record_points.specs.declared.Pointed.TheVariants as pointed
 use Rattle.lookups.specs.declared.Lookup.{Lookup}
 use Rattle.lookup_costs.specs.declared.Looked.{Looked}
 
-abbrev pub handedPointed : (looked : ℕ) → Pointed → Looked
-handedPointed looked pointed.Point = record { number = 0; looked = looked }
-handedPointed looked (pointed.Refused refusal) = record { number = number_of refusal; looked = looked }
+abbrev pub handed_pointed : (looked : ℕ) → Pointed → Looked
+handed_pointed looked pointed.Point = record { number = 0; looked = looked }
+handed_pointed looked (pointed.Refused refusal) = record { number = number_of refusal; looked = looked }
 
-unfoldable pub handedLookup : Lookup → Looked
-handedLookup l = handedPointed l.looked l.pointed
+unfoldable pub handed_lookup : Lookup → Looked
+handed_lookup l = handed_pointed l.looked l.pointed
 
 -- a place as one number: its own, or one that no place has
-abbrev pub handedPlace : Place → ℤ
-handedPlace Absent = pos 100000
-handedPlace Constant = pos 200000
-handedPlace (Number value) = value
+abbrev pub handed_place : Place → ℤ
+handed_place Absent = pos 100000
+handed_place Constant = pos 200000
+handed_place (Number value) = value
 
 -- the place of one channel of the sixteen
-unfoldable pub handedPoint : (channel : ℕ) → List Place → ℤ
-handedPoint channel places = handedPlace (get_or places (channel % 16) Absent)
+unfoldable pub handed_point : (channel : ℕ) → List Place → ℤ
+handed_point channel places = handed_place (get_or places (channel % 16) Absent)

@@ -1,7 +1,7 @@
 // One sample point by itself, as C calls it: bench/ counts the instructions of these functions, in a library of their own.
 ghost use Rattle.std.specs.Prelude.{◌≡◌};
-ghost use Rattle.lookups.specs.Lookup.{answered, lookUp};
-ghost use Rattle.lookup_costs.specs.Handed.{handedLookup, handedPlace, handedPoint};
+ghost use Rattle.lookups.specs.Lookup.{answered, look_up};
+ghost use Rattle.lookup_costs.specs.Handed.{handed_lookup, handed_place, handed_point};
 
 use channels::Place;
 use record_points::Pointed;
@@ -16,7 +16,7 @@ pub struct Looked {
 
 #[unsafe(no_mangle)]
 pub extern "C" fn costs_look_up(bytes: &[u8], index: usize) -> Looked
-    ensures { result ≡ handedLookup (answered (lookUp bytes.now index)) }
+    ensures { result ≡ handed_lookup (answered (look_up bytes.now index)) }
 {
     let lookup = lookups::look_up(bytes, index);
     let looked = lookup.looked;
@@ -35,7 +35,7 @@ pub extern "C" fn costs_look_up(bytes: &[u8], index: usize) -> Looked
 
 // A place as one number: its own, or one that no place has.
 fn told(place: Place) -> i32
-    ensures { result ≡ handedPlace place }
+    ensures { result ≡ handed_place place }
 {
     match place {
         Place::Absent => 100000,
@@ -46,7 +46,7 @@ fn told(place: Place) -> i32
 
 #[unsafe(no_mangle)]
 pub extern "C" fn costs_look_up_point(bytes: &[u8], index: usize, channel: usize) -> i32
-    ensures { result ≡ handedPoint channel (lookUp bytes.now index).places }
+    ensures { result ≡ handed_point channel (look_up bytes.now index).places }
 {
     let places = lookups::point(bytes, index);
     let of = channel % 16;

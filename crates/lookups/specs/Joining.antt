@@ -3,35 +3,35 @@ use Rattle.std.specs.Prelude.{◌≡◌, Bool, List, ℕ}
 use Rattle.formats.specs.Reader.{run}
 use Rattle.channels.specs.declared.Place.{Place}
 use Rattle.point_places.specs.Places.{nowhere}
-use Rattle.records.specs.Record.{fullRecord}
+use Rattle.records.specs.Record.{full_record}
 use Rattle.record_reading.specs.Verdict.{judged}
 use Rattle.record_reading.specs.declared.Verdict.{Verdict}
 use Rattle.record_reading.specs.declared.Verdict.TheVariants as verdict
-use Rattle.record_points.specs.Pointing.{pointedAt, placesIn}
+use Rattle.record_points.specs.Pointing.{pointed_at, places_in}
 use Rattle.record_points.specs.declared.Pointed.{Pointed}
 use Rattle.record_points.specs.declared.Pointed.TheVariants as pointed
-use Rattle.lookups.specs.Lookup.{Found, lookUp}
+use Rattle.lookups.specs.Lookup.{Found, look_up}
 
 -- a record is judged: where it is refused that refuses the point too, else the lookup answers
 abbrev pub joined : Verdict → Found → Pointed
 joined (verdict.Record length count extended) found = found.pointed
 joined (verdict.Refused refusal) found = pointed.Refused refusal
 
-abbrev pub joinedPlaces : Verdict → Found → List Place
-joinedPlaces (verdict.Record length count extended) found = found.places
-joinedPlaces (verdict.Refused refusal) found = nowhere
+abbrev pub joined_places : Verdict → Found → List Place
+joined_places (verdict.Record length count extended) found = found.places
+joined_places (verdict.Refused refusal) found = nowhere
 
 -- ---- The claims, of what `judge`, `look_up` and `point` here, and `judge_point` and `point` of `record_points`, answer of some bytes
 
 -- on all bytes, the one request is the two joined
 pub record IsJoined (s : List ℕ) (index : ℕ) : Type 0 where
-  pub answer : pointedAt index (run fullRecord s) ≡ joined (judged (run fullRecord s)).verdict (lookUp s index)
-  pub places : placesIn index (run fullRecord s) ≡ joinedPlaces (judged (run fullRecord s)).verdict (lookUp s index)
+  pub answer : pointed_at index (run full_record s) ≡ joined (judged (run full_record s)).verdict (look_up s index)
+  pub places : places_in index (run full_record s) ≡ joined_places (judged (run full_record s)).verdict (look_up s index)
 
 abbrev pub Joins : Type 0
 Joins = (s : List ℕ) (index : ℕ) → IsJoined s index
 
 -- on bytes that judge good, both give the same point
 abbrev pub SamePoint : Type 0
-SamePoint = (s : List ℕ) (index length count : ℕ) (extended : Bool) → (judged (run fullRecord s)).verdict ≡ verdict.Record length count extended
-    → ((lookUp s index).pointed ≡ pointedAt index (run fullRecord s)) × ((lookUp s index).places ≡ placesIn index (run fullRecord s))
+SamePoint = (s : List ℕ) (index length count : ℕ) (extended : Bool) → (judged (run full_record s)).verdict ≡ verdict.Record length count extended
+    → ((look_up s index).pointed ≡ pointed_at index (run full_record s)) × ((look_up s index).places ≡ places_in index (run full_record s))

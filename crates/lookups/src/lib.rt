@@ -1,11 +1,11 @@
 // One sample point looked up by itself: by the front of its record and that point alone, with how many bytes were looked at.
 ghost use Rattle.std.specs.Prelude.{◌≡◌, ◌+◌, ◌≤◌, length};
-ghost use Rattle.formats.specs.Reader.{readAt};
-ghost use Rattle.formats.specs.Sight.{seen, failedSight, FailedWithin};
-ghost use Rattle.refusals.specs.Table.{refusalOf};
+ghost use Rattle.formats.specs.Reader.{read_at};
+ghost use Rattle.formats.specs.Sight.{seen, failed_sight, FailedWithin};
+ghost use Rattle.refusals.specs.Table.{refusal_of};
 ghost use Rattle.points.specs.Points.{point};
 ghost use Rattle.lookups.specs.Lookup as meant;
-ghost use Rattle.lookups.specs.Lookup.{pointRead, lookUp, answered};
+ghost use Rattle.lookups.specs.Lookup.{point_read, look_up, answered};
 
 use channels::{Format, Place};
 use formats::{Failure, Outcome};
@@ -15,7 +15,7 @@ use refusals::Refusal;
 // How many bytes were looked at from a place on where reading failed: as many as are there, or up to and with the one that was refused.
 fn looked_from(start: usize, size: usize, failure: Failure) -> usize
     requires { FailedWithin size start failure }
-    ensures { result ≡ failedSight size start failure }
+    ensures { result ≡ failed_sight size start failure }
 {
     match failure {
         Failure::Short => { if size <= start { 0 } else { size - start } }
@@ -31,7 +31,7 @@ pub struct Lookup {
 }
 
 fn refused(failure: Failure, looked: usize) -> Lookup
-    ensures { result ≡ answered (meant.refused (refusalOf failure) looked) }
+    ensures { result ≡ answered (meant.refused (refusal_of failure) looked) }
 {
     Lookup {
         pointed: Pointed::Refused(refusals::of(failure)),
@@ -42,7 +42,7 @@ fn refused(failure: Failure, looked: usize) -> Lookup
 // The point that stands at a place, where its front was looked at before.
 fn look_at(bytes: &[u8], stored: [bool; 16], looked: usize, start: usize) -> Lookup
     requires { looked ≤ length bytes.now }
-    ensures { (result.pointed ≡ pointRead (readAt (point 2 stored) bytes.now start)) × (result.looked ≡ looked + length (seen (point 2 stored) bytes.now start)) }
+    ensures { (result.pointed ≡ point_read (read_at (point 2 stored) bytes.now start)) × (result.looked ≡ looked + length (seen (point 2 stored) bytes.now start)) }
 {
     let outcome = points::judge(bytes, start, Format::Full, stored, 1);
     if let Outcome::Failed(failure) = outcome {
@@ -56,7 +56,7 @@ fn look_at(bytes: &[u8], stored: [bool; 16], looked: usize, start: usize) -> Loo
 
 // The front is read, then its count decides, then the point is read. Other points, extended data and what follows are not looked at.
 pub fn look_up(bytes: &[u8], index: usize) -> Lookup
-    ensures { (result ≡ answered (lookUp bytes.now index)) × (result.looked ≤ 223) }
+    ensures { (result ≡ answered (look_up bytes.now index)) × (result.looked ≤ 223) }
 {
     let heading = record_fronts::front_at(bytes, 0);
     let outcome = heading.outcome;
@@ -77,7 +77,7 @@ pub fn look_up(bytes: &[u8], index: usize) -> Lookup
 
 // Its sixteen places, all absent where there is no such point: it is then read by the flags of no channel.
 pub fn point(bytes: &[u8], index: usize) -> [Place; 16]
-    ensures { result ≡ (lookUp bytes.now index).places }
+    ensures { result ≡ (look_up bytes.now index).places }
 {
     let heading = record_fronts::front_at(bytes, 0);
     let front = heading.front;

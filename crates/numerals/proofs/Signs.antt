@@ -11,7 +11,7 @@ use lib.IntN.{ℤ, pos, negsuc, nat_abs}
 use lib.Signed.{lt_z, non_neg}
 use mir.Syntax.{w64}
 use mir.Val.{SFits, Fits}
-use Rattle.words.specs.Said.{reasonOf}
+use Rattle.words.specs.Said.{reason_of}
 
 pub never : {X : Type 0} → false ≡ true → X
 never e = absurd (let z : ◌≡◌ {A = ℕ} 0 1 = cc in omega arith)
@@ -26,9 +26,9 @@ kept (pos n) q = refl
 kept (negsuc n) q = absurd (let z : ◌≡◌ {A = ℕ} 0 1 = cc in omega arith)
 
 -- where there is no reason the word was read
-pub read : (good : Bool) (word : List ℕ) (reason : ℕ) → reason ≡ reasonOf good word 2 → reason ≡ 0 → good ≡ true
+pub read : (good : Bool) (word : List ℕ) (reason : ℕ) → reason ≡ reason_of good word 2 → reason ≡ 0 → good ≡ true
 read true word reason e h = refl
 read false [] reason e h = absurd (omega arith)
 read false (byte ∷ bytes) reason e h =
-    let f : reasonOf false (byte ∷ bytes) 2 ≡ 2 = rw (ne_eqb (length (byte ∷ bytes)) 0 (λ q. omega arith)) refl in
+    let f : reason_of false (byte ∷ bytes) 2 ≡ 2 = rw (ne_eqb (length (byte ∷ bytes)) 0 (λ q. omega arith)) refl in
     absurd (omega arith)

@@ -3,7 +3,7 @@ ghost use Rattle.std.specs.Prelude.{◌≡◌, true, false, ◌<◌, ◌≤◌, 
 ghost use Rattle.numerals.specs.Decimal.{continued, whole};
 ghost use Rattle.numerals.specs.Told.{Told};
 
-use hex::Amount;
+use hexadecimal::Amount;
 
 // A number that one to eighteen digits say, or that they say none. It is below 10^18, so that 64 bits hold it with either sign.
 #[derive(Drop)]
@@ -174,7 +174,7 @@ pub fn values_in(word: &[u8], values: &mut [i32]) -> Amount
         let end = words::seek(word, from, b',');
         let number = small_in(words::part(word, from, end));
         if !number.good {
-            return hex::no_amount();
+            return hexadecimal::no_amount();
         }
         let value = number.value;
         values[count] = value;
@@ -187,7 +187,7 @@ pub fn values_in(word: &[u8], values: &mut [i32]) -> Amount
         }
         from = end + 1;
     }
-    hex::no_amount()
+    hexadecimal::no_amount()
 }
 
 // The first of some values that a line said.

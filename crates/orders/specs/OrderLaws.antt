@@ -9,7 +9,7 @@ use native.Mathlib.Omega.{arith}
 use Rattle.std.proofs.Math.ListN.{length, get_or, length-append, get_or-append, get_or-map}
 use Rattle.std.proofs.lemmas.List.{length-map}
 use Rattle.formats.specs.Writes.{All}
-use Rattle.orders.specs.Orders.{step, stride, index, Same, numbersFrom, pointsFrom, points_of, column, columnsFrom, values_of}
+use Rattle.orders.specs.Orders.{step, stride, index, Same, numbers_from, points_from, points_of, column, columns_from, values_of}
 use Rattle.orders.specs.declared.Order.{Order}
 use Rattle.orders.specs.declared.Order.TheVariants.{Point, Column}
 
@@ -28,9 +28,9 @@ positive zero b h = absurd (omega arith)
 positive (suc a) b h = omega arith
 
 -- the point and the rank whose number has an index
-unfoldable pub pointAt : Order → (count k at : ℕ) → ℕ
-pointAt Point count k at = at / k
-pointAt Column count k at = at % count
+unfoldable pub point_at : Order → (count k at : ℕ) → ℕ
+point_at Point count k at = at / k
+point_at Column count k at = at % count
 
 unfoldable pub rank_at : Order → (count k at : ℕ) → ℕ
 rank_at Point count k at = at % k
@@ -43,10 +43,10 @@ module _ (count k : ℕ) where
     index-within Point = omega (arith, mul-le-mul_right {m = suc i} {n = count} k (omega arith))
     index-within Column = omega (arith, mul_comm count k, mul-le-mul_right {m = suc r} {n = k} count (omega arith))
 
-    pub point_at : (order : Order) → pointAt order count k (index order count k i r) ≡ i
-    unfolding pointAt step stride
-    point_at Point = let z : i * k + r * 1 ≡ i * k + r = omega arith in rw z (line k i r g)
-    point_at Column = let z : i * 1 + r * count ≡ r * count + i = omega arith in rw z (within-line count r i h)
+    pub point_at_lem : (order : Order) → point_at order count k (index order count k i r) ≡ i
+    unfolding point_at step stride
+    point_at_lem Point = let z : i * k + r * 1 ≡ i * k + r = omega arith in rw z (line k i r g)
+    point_at_lem Column = let z : i * 1 + r * count ≡ r * count + i = omega arith in rw z (within-line count r i h)
 
     pub rank-at : (order : Order) → rank_at order count k (index order count k i r) ≡ r
     unfolding rank_at step stride
@@ -61,12 +61,12 @@ module _ (count k : ℕ) where
 
   -- every index below the amount is that of its point and its rank
   pub record Stands (order : Order) (at : ℕ) : Type 0 where
-    pub counted : pointAt order count k at < count
+    pub counted : point_at order count k at < count
     pub among : rank_at order count k at < k
-    pub is : at ≡ index order count k (pointAt order count k at) (rank_at order count k at)
+    pub is : at ≡ index order count k (point_at order count k at) (rank_at order count k at)
 
   pub stands : (order : Order) (at : ℕ) → at < count * k → Stands order at
-  unfolding pointAt rank_at step stride
+  unfolding point_at rank_at step stride
   stands Point at h =
       let some : 0 < k = positive k count (rw (mul_comm count k) at h) in
       record { counted = (div-lt_iff_lt-mul some).1 h; among = mod-lt at some; is = sym (div-add-mod' at k) ∙ omega arith }
@@ -90,13 +90,13 @@ step-within k g h Column = (omega arith, omega arith)
 -- ---- Where a number stands
 
 module _ (values : List ℤ) (d : ℕ) where
-  length-numbers : (k from : ℕ) → length (numbersFrom values d k from) ≡ k
-  unfolding numbersFrom
+  length-numbers : (k from : ℕ) → length (numbers_from values d k from) ≡ k
+  unfolding numbers_from
   length-numbers zero from = refl
   length-numbers (suc k) from = ap suc (length-numbers k (from + d))
 
-  nth_number : (k from r : ℕ) → r < k → get_or (numbersFrom values d k from) r (pos 0) ≡ get_or values (from + r * d) (pos 0)
-  unfolding numbersFrom
+  nth_number : (k from r : ℕ) → r < k → get_or (numbers_from values d k from) r (pos 0) ≡ get_or values (from + r * d) (pos 0)
+  unfolding numbers_from
   nth_number zero from r h = absurd (omega arith)
   nth_number (suc k) from zero h = let z : from ≡ from + 0 * d = omega arith in ap (λ i. get_or values i (pos 0)) z
   nth_number (suc k) from (suc r) h =
@@ -104,18 +104,18 @@ module _ (values : List ℤ) (d : ℕ) where
       nth_number k (from + d) r (omega arith) ∙ ap (λ i. get_or values i (pos 0)) z
 
   module _ (k p : ℕ) where
-    length-points : (n from : ℕ) → length (pointsFrom values d k p n from) ≡ n
-    unfolding pointsFrom
+    length-points : (n from : ℕ) → length (points_from values d k p n from) ≡ n
+    unfolding points_from
     length-points zero from = refl
     length-points (suc n) from = ap suc (length-points n (from + p))
 
-    nth-point : (n from i : ℕ) → i < n → get_or (pointsFrom values d k p n from) i [] ≡ numbersFrom values d k (from + i * p)
-    unfolding pointsFrom
+    nth-point : (n from i : ℕ) → i < n → get_or (points_from values d k p n from) i [] ≡ numbers_from values d k (from + i * p)
+    unfolding points_from
     nth-point zero from i h = absurd (omega arith)
-    nth-point (suc n) from zero h = let z : from ≡ from + 0 * p = omega arith in ap (numbersFrom values d k) z
+    nth-point (suc n) from zero h = let z : from ≡ from + 0 * p = omega arith in ap (numbers_from values d k) z
     nth-point (suc n) from (suc i) h =
         let z : from + p + i * p ≡ from + suc i * p = omega arith in
-        nth-point n (from + p) i (omega arith) ∙ ap (numbersFrom values d k) z
+        nth-point n (from + p) i (omega arith) ∙ ap (numbers_from values d k) z
 
 module _ (order : Order) (count k : ℕ) (values : List ℤ) where
   -- there are as many points as are counted
@@ -197,18 +197,18 @@ column-length : (r : ℕ) (points : List (List ℤ)) → length (column r points
 unfolding column
 column-length r points = length-map points (λ point. get_or point r (pos 0))
 
-columns-many : (k r : ℕ) (points : List (List ℤ)) → length (columnsFrom k r points) ≡ k
-unfolding columnsFrom
+columns-many : (k r : ℕ) (points : List (List ℤ)) → length (columns_from k r points) ≡ k
+unfolding columns_from
 columns-many zero r points = refl
 columns-many (suc k) r points = ap suc (columns-many k (suc r) points)
 
-columns-sizes : (k r : ℕ) (points : List (List ℤ)) → All (λ l. length l ≡ length points) (columnsFrom k r points)
-unfolding columnsFrom
+columns-sizes : (k r : ℕ) (points : List (List ℤ)) → All (λ l. length l ≡ length points) (columns_from k r points)
+unfolding columns_from
 columns-sizes zero r points = tt
 columns-sizes (suc k) r points = (column-length r points, columns-sizes k (suc r) points)
 
-columns-at : (k first : ℕ) (points : List (List ℤ)) (r : ℕ) → r < k → get_or (columnsFrom k first points) r [] ≡ column (first + r) points
-unfolding columnsFrom
+columns-at : (k first : ℕ) (points : List (List ℤ)) (r : ℕ) → r < k → get_or (columns_from k first points) r [] ≡ column (first + r) points
+unfolding columns_from
 columns-at zero first points r h = absurd (omega arith)
 columns-at (suc k) first points zero h = let z : first ≡ first + 0 = omega arith in ap (λ n. column n points) z
 columns-at (suc k) first points (suc r) h = let z : suc first + r ≡ first + suc r = omega arith in columns-at k (suc first) points r (omega arith) ∙ ap (λ n. column n points) z
@@ -218,7 +218,7 @@ module _ (k : ℕ) (points : List (List ℤ)) (sizes : All (λ p. length p ≡ k
   pub values-many : (order : Order) → length (values_of order k points) ≡ length points * k
   unfolding values_of
   values-many Point = flat-length k points sizes
-  values-many Column = flat-length (length points) (columnsFrom k 0 points) (columns-sizes k 0 points) ∙ rw (columns-many k 0 points) (mul_comm k (length points))
+  values-many Column = flat-length (length points) (columns_from k 0 points) (columns-sizes k 0 points) ∙ rw (columns-many k 0 points) (mul_comm k (length points))
 
   -- and the number of point i and rank r has their index
   pub value-is : (order : Order) (i r : ℕ) → i < length points → r < k → get_or (values_of order k points) (index order (length points) k i r) (pos 0) ≡ get_or (get_or points i []) r (pos 0)
@@ -227,7 +227,7 @@ module _ (k : ℕ) (points : List (List ℤ)) (sizes : All (λ p. length p ≡ k
   value-is Column i r h g =
       let z : i * 1 + r * length points ≡ r * length points + i = omega arith in
       rw z
-      (flat-at (length points) (columnsFrom k 0 points) (columns-sizes k 0 points) r i (omega (arith, columns-many k 0 points)) h
+      (flat-at (length points) (columns_from k 0 points) (columns-sizes k 0 points) r i (omega (arith, columns-many k 0 points)) h
       ∙ ap (λ l. get_or l i (pos 0)) (columns-at k 0 points r g)
       ∙ column-at (0 + r) points i
       ∙ let y : 0 + r ≡ r = omega arith in ap (λ n. get_or (get_or points i []) n (pos 0)) y)

@@ -33,16 +33,16 @@ Same count k rows columns =
 -- ---- The points that some values are
 
 -- k numbers from an index on, a stride apart; and n points of them, a step apart
-unfoldable pub numbersFrom : List ℤ → (stride k from : ℕ) → List ℤ
-numbersFrom values stride zero from = []
-numbersFrom values stride (suc k) from = get_or values from (pos 0) ∷ numbersFrom values stride k (from + stride)
+unfoldable pub numbers_from : List ℤ → (stride k from : ℕ) → List ℤ
+numbers_from values stride zero from = []
+numbers_from values stride (suc k) from = get_or values from (pos 0) ∷ numbers_from values stride k (from + stride)
 
-unfoldable pub pointsFrom : List ℤ → (stride k step n from : ℕ) → List (List ℤ)
-pointsFrom values stride k step zero from = []
-pointsFrom values stride k step (suc n) from = numbersFrom values stride k from ∷ pointsFrom values stride k step n (from + step)
+unfoldable pub points_from : List ℤ → (stride k step n from : ℕ) → List (List ℤ)
+points_from values stride k step zero from = []
+points_from values stride k step (suc n) from = numbers_from values stride k from ∷ points_from values stride k step n (from + step)
 
 unfoldable pub points_of : Order → (count k : ℕ) → List ℤ → List (List ℤ)
-points_of order count k values = pointsFrom values (stride order count) k (step order k) count 0
+points_of order count k values = points_from values (stride order count) k (step order k) count 0
 
 -- ---- The values that some points are
 
@@ -50,11 +50,11 @@ points_of order count k values = pointsFrom values (stride order count) k (step 
 unfoldable pub column : (r : ℕ) → List (List ℤ) → List ℤ
 column r points = map (λ point. get_or point r (pos 0)) points
 
-unfoldable pub columnsFrom : (k r : ℕ) → List (List ℤ) → List (List ℤ)
-columnsFrom zero r points = []
-columnsFrom (suc k) r points = column r points ∷ columnsFrom k (suc r) points
+unfoldable pub columns_from : (k r : ℕ) → List (List ℤ) → List (List ℤ)
+columns_from zero r points = []
+columns_from (suc k) r points = column r points ∷ columns_from k (suc r) points
 
 -- point after point, or column after column
 unfoldable pub values_of : Order → (k : ℕ) → List (List ℤ) → List ℤ
 values_of Point k points = flatten points
-values_of Column k points = flatten (columnsFrom k 0 points)
+values_of Column k points = flatten (columns_from k 0 points)

@@ -7,7 +7,7 @@ use native.Mathlib.Omega.{arith}
 use lib.IntN.{ℤ, pos}
 use lib.ListN.{length, get_or, drop, set}
 use lib.Seq.{get_or-drop}
-use Rattle.formats.specs.Reader.{Reader, Answer, ok, short, bad, done, mapped, and_then, readAt, each, map}
+use Rattle.formats.specs.Reader.{Reader, Answer, ok, short, bad, done, mapped, and_then, read_at, each, map}
 use Rattle.formats.specs.Compose.{at_done, at_map, at_each}
 use Rattle.formats.specs.Bytes.{impossible}
 use Rattle.formats.specs.Gathered.{Gathered, gathered-more, gathered-failed, gathered-all, mapped-mapped}
@@ -16,9 +16,9 @@ use Rattle.formats.specs.declared.Failure.{Failure}
 use Rattle.formats.specs.declared.Failure.TheVariants.{Short, Bad}
 use Rattle.channels.specs.declared.Place.{Place}
 use Rattle.channels.specs.declared.Place.TheVariants.{Number}
-use Rattle.points.specs.Points.{sample, point, storedFrom, channels}
-use Rattle.point_places.specs.Places.{unstored, places_of, nowhere, placesIn}
-use Rattle.point_places.specs.Parts.{sampled, placeRead, place}
+use Rattle.points.specs.Points.{sample, point, stored_from, channels}
+use Rattle.point_places.specs.Places.{unstored, places_of, nowhere, places_in}
+use Rattle.point_places.specs.Parts.{sampled, place_read, place}
 use Rattle.point_places.specs.declared.Sample.{Sample}
 use Rattle.point_places.specs.declared.Sample.TheVariants as samples
 use Rattle.point_places.specs.declared.PlaceRead.{PlaceRead}
@@ -66,31 +66,31 @@ module _ (w : ℕ) where
   module _ (s : List ℕ) where
     abbrev Same : ℕ → (included stored : List Bool) → ℕ → Type 0
     Same i included stored at =
-        mapped (places_of included stored) (readAt (each (storedFrom i stored) (sample w)) s at) ≡ readAt (each (flagged i included stored) place_of) s at
+        mapped (places_of included stored) (read_at (each (stored_from i stored) (sample w)) s at) ≡ read_at (each (flagged i included stored) place_of) s at
 
     -- a channel with no bytes
     silent : (p : Place) (i : ℕ) (included stored : List Bool) (at : ℕ) → Same i included stored at
-        → mapped (λ vs. p ∷ places_of included stored vs) (readAt (each (storedFrom i stored) (sample w)) s at)
-        ≡ and_then (readAt (done p) s at) (λ v n. mapped (λ vs. v ∷ vs) (readAt (each (flagged i included stored) place_of) s n))
+        → mapped (λ vs. p ∷ places_of included stored vs) (read_at (each (stored_from i stored) (sample w)) s at)
+        ≡ and_then (read_at (done p) s at) (λ v n. mapped (λ vs. v ∷ vs) (read_at (each (flagged i included stored) place_of) s n))
     unfolding and_then
     silent p i included stored at h =
-        sym (mapped-mapped (λ vs. p ∷ vs) (places_of included stored) (readAt (each (storedFrom i stored) (sample w)) s at))
+        sym (mapped-mapped (λ vs. p ∷ vs) (places_of included stored) (read_at (each (stored_from i stored) (sample w)) s at))
         ∙ rw (at_done p s at) (ap (mapped (λ vs. p ∷ vs)) h)
 
     -- a channel with a number
     spoken : (x : Answer ℤ) (i : ℕ) (included stored : List Bool) → ((n : ℕ) → Same i included stored n)
-        → mapped (λ vs. Number (get_or vs 0 (pos 0)) ∷ places_of included stored (drop 1 vs)) (and_then x (λ v n. mapped (λ vs. v ∷ vs) (readAt (each (storedFrom i stored) (sample w)) s n)))
-        ≡ and_then (mapped Number x) (λ v n. mapped (λ vs. v ∷ vs) (readAt (each (flagged i included stored) place_of) s n))
+        → mapped (λ vs. Number (get_or vs 0 (pos 0)) ∷ places_of included stored (drop 1 vs)) (and_then x (λ v n. mapped (λ vs. v ∷ vs) (read_at (each (stored_from i stored) (sample w)) s n)))
+        ≡ and_then (mapped Number x) (λ v n. mapped (λ vs. v ∷ vs) (read_at (each (flagged i included stored) place_of) s n))
     unfolding and_then mapped
     spoken (ok v n) i included stored h =
-        mapped-mapped (λ vs. Number (get_or vs 0 (pos 0)) ∷ places_of included stored (drop 1 vs)) (λ vs. v ∷ vs) (readAt (each (storedFrom i stored) (sample w)) s n)
-        ∙ sym (mapped-mapped (λ vs. Number v ∷ vs) (places_of included stored) (readAt (each (storedFrom i stored) (sample w)) s n))
+        mapped-mapped (λ vs. Number (get_or vs 0 (pos 0)) ∷ places_of included stored (drop 1 vs)) (λ vs. v ∷ vs) (read_at (each (stored_from i stored) (sample w)) s n)
+        ∙ sym (mapped-mapped (λ vs. Number v ∷ vs) (places_of included stored) (read_at (each (stored_from i stored) (sample w)) s n))
         ∙ ap (mapped (λ vs. Number v ∷ vs)) (h n)
     spoken short i included stored h = refl
     spoken (bad k p) i included stored h = refl
 
     pub set_out : (i : ℕ) (included stored : List Bool) (at : ℕ) → Same i included stored at
-    unfolding places_of storedFrom flagged place each mapped
+    unfolding places_of stored_from flagged place each mapped
     set_out i included [] at = ap (mapped (places_of included [])) (at_done [] s at) ∙ sym (at_done [] s at)
     set_out i included (flag ∷ stored) at =
         go flag (set_out (suc i) (drop 1 included) stored)
@@ -99,43 +99,43 @@ module _ (w : ℕ) where
         go : (t : Bool) → ((n : ℕ) → Same (suc i) (drop 1 included) stored n)
             → mapped
             (λ vs. cond t (Number (get_or vs 0 (pos 0)) ∷ places_of (drop 1 included) stored (drop 1 vs)) (unstored (get_or included 0 false) ∷ places_of (drop 1 included) stored vs))
-            (readAt (each (cond t (i ∷ storedFrom (suc i) stored) (storedFrom (suc i) stored)) (sample w)) s at)
-            ≡ and_then (readAt (cond t (map Number (sample w i)) (done (unstored (get_or included 0 false)))) s at) (λ v n. mapped (λ vs. v ∷ vs) (readAt (each (flagged (suc i) (drop 1 included) stored) place_of) s n))
+            (read_at (each (cond t (i ∷ stored_from (suc i) stored) (stored_from (suc i) stored)) (sample w)) s at)
+            ≡ and_then (read_at (cond t (map Number (sample w i)) (done (unstored (get_or included 0 false)))) s at) (λ v n. mapped (λ vs. v ∷ vs) (read_at (each (flagged (suc i) (drop 1 included) stored) place_of) s n))
         go true h =
-            rw (at_each s at i (storedFrom (suc i) stored) (sample w), at_map Number (sample w i) s at)
-            (spoken (readAt (sample w i) s at) (suc i) (drop 1 included) stored h)
+            rw (at_each s at i (stored_from (suc i) stored) (sample w), at_map Number (sample w i) s at)
+            (spoken (read_at (sample w i) s at) (suc i) (drop 1 included) stored h)
         go false h = silent (unstored (get_or included 0 false)) (suc i) (drop 1 included) stored at (h at)
 
   -- ---- By the tests of the code
 
   module _ (s : List ℕ) (at channel : ℕ) (included : Bool) where
-    pub place-unstored : (stored : Bool) → stored ≡ false → readAt (place w channel included stored) s at ≡ ok (unstored included) at
+    pub place-unstored : (stored : Bool) → stored ≡ false → read_at (place w channel included stored) s at ≡ ok (unstored included) at
     unfolding place
     place-unstored stored e = rw e (at_done (unstored included) s at)
 
-    place-number : (stored : Bool) → stored ≡ true → readAt (place w channel included stored) s at ≡ mapped Number (readAt (sample w channel) s at)
+    place-number : (stored : Bool) → stored ≡ true → read_at (place w channel included stored) s at ≡ mapped Number (read_at (sample w channel) s at)
     unfolding place
     place-number stored e = rw e (at_map Number (sample w channel) s at)
 
-    read_number : (x : Answer ℤ) → placeRead (mapped Number x) ≡ numbered (sampled x)
-    unfolding sampled placeRead mapped
+    read_number : (x : Answer ℤ) → place_read (mapped Number x) ≡ numbered (sampled x)
+    unfolding sampled place_read mapped
     read_number (ok u m) = refl
     read_number short = refl
     read_number (bad k p) = refl
 
-    pub place-stored : (stored : Bool) {x : Sample} → stored ≡ true → sampled (readAt (sample w channel) s at) ≡ x
-        → placeRead (readAt (place w channel included stored) s at) ≡ numbered x
-    place-stored stored e h = ap placeRead (place-number stored e) ∙ read_number (readAt (sample w channel) s at) ∙ ap numbered h
+    pub place-stored : (stored : Bool) {x : Sample} → stored ≡ true → sampled (read_at (sample w channel) s at) ≡ x
+        → place_read (read_at (place w channel included stored) s at) ≡ numbered x
+    place-stored stored e h = ap place_read (place-number stored e) ∙ read_number (read_at (sample w channel) s at) ∙ ap numbered h
 
 -- what was read, taken back to the answer
-pub read_ok : (x : Answer Place) {v : Place} {n : ℕ} → reads.Read v n ≡ placeRead x → x ≡ ok v n
-unfolding placeRead
+pub read_ok : (x : Answer Place) {v : Place} {n : ℕ} → reads.Read v n ≡ place_read x → x ≡ ok v n
+unfolding place_read
 read_ok (ok u m) e = cc
 read_ok short e = impossible (cc)
 read_ok (bad k p) e = impossible (cc)
 
-pub read-failed : (x : Answer Place) {f : Failure} → reads.Failed f ≡ placeRead x → x ≡ failed f
-unfolding placeRead
+pub read-failed : (x : Answer Place) {f : Failure} → reads.Failed f ≡ place_read x → x ≡ failed f
+unfolding place_read
 read-failed (ok v n) e = impossible (cc)
 read-failed short {f} e = ap failed {x = Short} {y = f} (cc)
 read-failed (bad k p) {f} e = ap failed {x = Bad k p} {y = f} (cc)
@@ -150,38 +150,38 @@ module _ (w : ℕ) (included stored : List Bool) (s : List ℕ) (start : ℕ) wh
   abbrev pub SoFar : List Place → ℕ → ℕ → Type 0
   SoFar a i at = Gathered all (place_of w) s start a i at
 
-  found : (x : Answer (List ℤ)) (y : Answer (List Place)) → mapped (places_of included stored) x ≡ y → (ps : List Place) (n : ℕ) → y ≡ ok ps n → placesIn included stored x ≡ ps
-  unfolding mapped placesIn
+  found : (x : Answer (List ℤ)) (y : Answer (List Place)) → mapped (places_of included stored) x ≡ y → (ps : List Place) (n : ℕ) → y ≡ ok ps n → places_in included stored x ≡ ps
+  unfolding mapped places_in
   found (ok v m) y e ps n g = cc
   found short y e ps n g = impossible (cc)
   found (bad k p) y e ps n g = impossible (cc)
 
-  no-point : (x : Answer (List ℤ)) (f : Failure) → mapped (places_of included stored) x ≡ failed f → placesIn included stored x ≡ nowhere
-  unfolding mapped placesIn told
+  no-point : (x : Answer (List ℤ)) (f : Failure) → mapped (places_of included stored) x ≡ failed f → places_in included stored x ≡ nowhere
+  unfolding mapped places_in told
   no-point (ok v n) f e = impossible (cc (failed-told f e))
   no-point short f e = refl
   no-point (bad k p) f e = refl
 
-  set_all : mapped (places_of included stored) (readAt (point w stored) s start) ≡ readAt (each all (place_of w)) s start
+  set_all : mapped (places_of included stored) (read_at (point w stored) s start) ≡ read_at (each all (place_of w)) s start
   unfolding point channels
   set_all = set_out w s 0 included stored start
 
-  pub set-end : (a : List Place) (i at : ℕ) → length stored ≤ i → length a ≤ i → SoFar a i at → placesIn included stored (readAt (point w stored) s start) ≡ a
+  pub set-end : (a : List Place) (i at : ℕ) → length stored ≤ i → length a ≤ i → SoFar a i at → places_in included stored (read_at (point w stored) s start) ≡ a
   set-end a i at h q g =
-      found (readAt (point w stored) s start) _ set_all a at (gathered-all all (place_of w) s start a i at (omega (arith, length-flagged 0 included stored)) q g)
+      found (read_at (point w stored) s start) _ set_all a at (gathered-all all (place_of w) s start a i at (omega (arith, length-flagged 0 included stored)) q g)
 
   module _ (a : List Place) (i at : ℕ) (h : i < length stored) (g : SoFar a i at) where
     abbrev here : Answer Place
-    here = readAt (place w i (get_or included i false) (get_or stored i false)) s at
+    here = read_at (place w i (get_or included i false) (get_or stored i false)) s at
 
     inside : i < length all
     inside = omega (arith, length-flagged 0 included stored)
 
-    this : readAt (place_of w (get_or all i unflagged)) s at ≡ here
-    this = let z : 0 + i ≡ i = omega arith in ap (λ f. readAt (place_of w f) s at) (rw z at (nth-flagged stored included 0 i h))
+    this : read_at (place_of w (get_or all i unflagged)) s at ≡ here
+    this = let z : 0 + i ≡ i = omega arith in ap (λ f. read_at (place_of w f) s at) (rw z at (nth-flagged stored included 0 i h))
 
-    pub set_more : {v : Place} {n : ℕ} → i < length a → reads.Read v n ≡ placeRead here → SoFar (set a i v) (i + 1) n
+    pub set_more : {v : Place} {n : ℕ} → i < length a → reads.Read v n ≡ place_read here → SoFar (set a i v) (i + 1) n
     set_more q e = gathered-more all _ s start unflagged a i at inside g q (this ∙ read_ok _ e)
 
-    pub set-failed : {f : Failure} → reads.Failed f ≡ placeRead here → placesIn included stored (readAt (point w stored) s start) ≡ nowhere
+    pub set-failed : {f : Failure} → reads.Failed f ≡ place_read here → places_in included stored (read_at (point w stored) s start) ≡ nowhere
     set-failed {f} e = no-point _ f (set_all ∙ gathered-failed all _ s start unflagged a i at inside g f (this ∙ read-failed _ e))

@@ -22,7 +22,7 @@ unfoldable pub place : (w channel : ℕ) (included stored : Bool) → Reader Pla
 place w channel included stored = cond stored (map Number (sample w channel)) (done (unstored included))
 
 -- a place of a point and where its bytes end
-unfoldable pub placeRead : Answer Place → PlaceRead
-placeRead (ok v n) = reads.Read v n
-placeRead short = reads.Failed Short
-placeRead (bad k p) = reads.Failed (Bad k p)
+unfoldable pub place_read : Answer Place → PlaceRead
+place_read (ok v n) = reads.Read v n
+place_read short = reads.Failed Short
+place_read (bad k p) = reads.Failed (Bad k p)

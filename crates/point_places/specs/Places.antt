@@ -21,7 +21,7 @@ abbrev pub nowhere : List Place
 nowhere = replicate 16 Absent
 
 -- the places of a point that was read
-unfoldable pub placesIn : (included stored : List Bool) → Answer (List ℤ) → List Place
-placesIn included stored (ok point n) = places_of included stored point
-placesIn included stored short = nowhere
-placesIn included stored (bad k p) = nowhere
+unfoldable pub places_in : (included stored : List Bool) → Answer (List ℤ) → List Place
+places_in included stored (ok point n) = places_of included stored point
+places_in included stored short = nowhere
+places_in included stored (bad k p) = nowhere

@@ -1,10 +1,10 @@
 // A sample point of ISO/IEC 19794-7:2007 (7.4.2, 8.4) as sixteen places, at the width of either format: read channel by channel.
 ghost use Rattle.std.specs.Prelude.{◌≡◌};
-ghost use Rattle.formats.specs.Reader.{readAt};
+ghost use Rattle.formats.specs.Reader.{read_at};
 ghost use Rattle.channels.specs.Channel.{width_of};
 ghost use Rattle.points.specs.Points.{sample, point};
-ghost use Rattle.point_places.specs.Places.{placesIn};
-ghost use Rattle.point_places.specs.Parts.{sampled, placeRead, place};
+ghost use Rattle.point_places.specs.Places.{places_in};
+ghost use Rattle.point_places.specs.Parts.{sampled, place_read, place};
 
 use channels::{Format, Place};
 use formats::Failure;
@@ -19,7 +19,7 @@ enum Sample {
 
 // A channel's number in a sample point.
 fn sample_at(bytes: &[u8], at: usize, format: Format, channel: usize) -> Sample
-    ensures { result ≡ sampled (readAt (sample (width_of format) channel) bytes.now at) }
+    ensures { result ≡ sampled (read_at (sample (width_of format) channel) bytes.now at) }
 {
     if bytes.len() <= at {
         return Sample::Failed(Failure::Short);
@@ -62,7 +62,7 @@ pub fn place_at(
     included: bool,
     stored: bool,
 ) -> PlaceRead
-    ensures { result ≡ placeRead (readAt (place (width_of format) channel included stored) bytes.now at) }
+    ensures { result ≡ place_read (read_at (place (width_of format) channel included stored) bytes.now at) }
 {
     if stored {
         match sample_at(bytes, at, format, channel) {
@@ -94,7 +94,7 @@ pub fn places(
     included: [bool; 16],
     stored: [bool; 16],
 ) -> [Place; 16]
-    ensures { result ≡ placesIn included stored (readAt (point (width_of format) stored) bytes.now start) }
+    ensures { result ≡ places_in included stored (read_at (point (width_of format) stored) bytes.now start) }
 {
     let mut places = [Place::Absent; 16];
     let mut at = start;

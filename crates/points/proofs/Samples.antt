@@ -17,7 +17,7 @@ use Rattle.formats.specs.Told.{told}
 use Rattle.formats.specs.Writes.{All}
 use Rattle.formats.specs.Jump.{Jumps, ends_there, ends-short, jumps-done, jumps-bind, jumps-map, jumps-times}
 use Rattle.channels.specs.Channel.{S}
-use Rattle.points.specs.Points.{switch, sample, point, storedFrom, channels, sampleSize, widths, width}
+use Rattle.points.specs.Points.{switch, sample, point, stored_from, channels, sample_size, widths, width}
 use Rattle.points.specs.SampleLaws.{Wide, wide_short, wide_ok}
 
 -- ---- The channels from i on
@@ -25,31 +25,31 @@ use Rattle.points.specs.SampleLaws.{Wide, wide_short, wide_ok}
 module _ (stored : List Bool) (i : ℕ) (h : i < length stored) where
   -- whether channel i is one of them
   stored-by : (t : Bool) → get_or stored i false ≡ t
-      → storedFrom i (drop i stored) ≡ cond t (i ∷ storedFrom (i + 1) (drop (i + 1) stored)) (storedFrom (i + 1) (drop (i + 1) stored))
-  unfolding storedFrom
+      → stored_from i (drop i stored) ≡ cond t (i ∷ stored_from (i + 1) (drop (i + 1) stored)) (stored_from (i + 1) (drop (i + 1) stored))
+  unfolding stored_from
   stored-by t e =
-      rw (add-one, drop-cons stored i false h) (ap (λ b. cond b (i ∷ storedFrom (suc i) (drop (suc i) stored)) (storedFrom (suc i) (drop (suc i) stored))) e)
+      rw (add-one, drop-cons stored i false h) (ap (λ b. cond b (i ∷ stored_from (suc i) (drop (suc i) stored)) (stored_from (suc i) (drop (suc i) stored))) e)
 
-  pub stored-in : get_or stored i false ≡ true → storedFrom i (drop i stored) ≡ i ∷ storedFrom (i + 1) (drop (i + 1) stored)
+  pub stored-in : get_or stored i false ≡ true → stored_from i (drop i stored) ≡ i ∷ stored_from (i + 1) (drop (i + 1) stored)
   stored-in e = stored-by true e
 
-  pub stored-out : get_or stored i false ≡ false → storedFrom i (drop i stored) ≡ storedFrom (i + 1) (drop (i + 1) stored)
+  pub stored-out : get_or stored i false ≡ false → stored_from i (drop i stored) ≡ stored_from (i + 1) (drop (i + 1) stored)
   stored-out e = stored-by false e
 
-pub stored-none : (stored : List Bool) (i : ℕ) → length stored ≤ i → storedFrom i (drop i stored) ≡ []
-unfolding storedFrom
+pub stored-none : (stored : List Bool) (i : ℕ) → length stored ≤ i → stored_from i (drop i stored) ≡ []
+unfolding stored_from
 stored-none stored i h = rw (drop_of_length-le stored {i = i} h)
 
 -- ---- The width of what is left
 
 module _ (w : ℕ) (stored : List Bool) (i : ℕ) where
   abbrev more : ℕ → ℕ
-  more j = widths w (storedFrom j (drop j stored))
+  more j = widths w (stored_from j (drop j stored))
 
   pub width-out : i < length stored → get_or stored i false ≡ false → more i ≡ more (i + 1)
   width-out h e = ap (widths w) (stored-out stored i h e)
 
-  pub width-in : i < length stored → get_or stored i false ≡ true → more i ≡ sampleSize w i + more (i + 1)
+  pub width-in : i < length stored → get_or stored i false ≡ true → more i ≡ sample_size w i + more (i + 1)
   unfolding widths
   width-in h e = ap (widths w) (stored-in stored i h e)
 
@@ -75,13 +75,13 @@ module _ (w : ℕ) where
       rw (ne_eqb channel S h.0)
       (jumps-bind (sample w channel) _ w (widths w l) (sample-jumps channel h.0) (λ v. jumps-map (λ vs. v ∷ vs) (each l (sample w)) (widths w l) (each-jumps l h.1)))
 
-pub no_switch : (stored : List Bool) (i : ℕ) → ((j : ℕ) → j + i ≡ S → get_or stored j false ≡ false) → All Wide (storedFrom i stored)
-unfolding storedFrom
+pub no_switch : (stored : List Bool) (i : ℕ) → ((j : ℕ) → j + i ≡ S → get_or stored j false ≡ false) → All Wide (stored_from i stored)
+unfolding stored_from
 no_switch [] i h = tt
 no_switch (flag ∷ stored) i h = go flag refl (no_switch stored (suc i) (λ j e. h (suc j) (omega arith)))
   where
-    go : (t : Bool) → flag ≡ t → All Wide (storedFrom (suc i) stored)
-        → All Wide (cond t (i ∷ storedFrom (suc i) stored) (storedFrom (suc i) stored))
+    go : (t : Bool) → flag ≡ t → All Wide (stored_from (suc i) stored)
+        → All Wide (cond t (i ∷ stored_from (suc i) stored) (stored_from (suc i) stored))
     go true e r = (λ q. let x : flag ≡ false = h 0 (omega arith) in impossible (cc), r)
     go false e r = r
 

@@ -10,7 +10,7 @@ use borrow.Author.Tests.{le-leb, lt-leb}
 use lib.Dec.{leb}
 use lib.ListN.{length, get_or, take, drop, length-take, get_or-eq_default}
 use Rattle.formats.specs.Bytes.{impossible}
-use Rattle.formats.specs.Reader.{readAt, each, times}
+use Rattle.formats.specs.Reader.{read_at, each, times}
 use Rattle.formats.specs.Number.{at-number}
 use Rattle.formats.specs.Jump.{ends, ends-sum}
 use Rattle.formats.specs.Told.{told, repeated, times-repeated, each-done, each-failed}
@@ -19,7 +19,7 @@ use Rattle.formats.specs.declared.Failure.TheVariants.{Short, Bad}
 use Rattle.formats.specs.declared.Outcome.TheVariants.{Done, Failed}
 use Rattle.channels.specs.Channel.{S}
 use Rattle.tip_switch.specs.Switch.{admitted}
-use Rattle.points.specs.Points.{sample, point, storedFrom, channels, widths, width}
+use Rattle.points.specs.Points.{sample, point, stored_from, channels, widths, width}
 use Rattle.points.specs.Parts.{switched}
 use Rattle.points.specs.Laws.{widths-behind}
 use Rattle.points.specs.SampleLaws.{Wide, wide-size, wide_ok, wide_short, switch-short, switch-ok, switch-bad}
@@ -44,12 +44,12 @@ module _ (s : List ℕ) (at width offset : ℕ) where
 
 -- the numbers before the switch are passed over, if they are there
 module _ (w : ℕ) (m s : List ℕ) where
-  wide-done : (channel at : ℕ) → Wide channel → at + w ≤ length s → Done (at + w) ≡ told (readAt (sample w channel) s at)
+  wide-done : (channel at : ℕ) → Wide channel → at + w ≤ length s → Done (at + w) ≡ told (read_at (sample w channel) s at)
   unfolding told
   wide-done channel at e h = sym (ap told (wide_ok w s at channel e (at-number w s at h)))
 
   over : (l : List ℕ) → All Wide l → (at : ℕ) → at + widths w l ≤ length s
-      → told (readAt (each (l ++ m) (sample w)) s at) ≡ told (readAt (each m (sample w)) s (at + widths w l))
+      → told (read_at (each (l ++ m) (sample w)) s at) ≡ told (read_at (each m (sample w)) s (at + widths w l))
   unfolding widths
   over [] h at q = let z : at + 0 ≡ at = omega arith in rw z
   over (channel ∷ l) h at q =
@@ -57,7 +57,7 @@ module _ (w : ℕ) (m s : List ℕ) where
       let z : at + (w + widths w l) ≡ at + w + widths w l = omega arith in
       rw (e, z) (each-done channel (l ++ m) (sample w) s at (wide-done channel at h.0 (omega arith)) ∙ over l h.1 (at + w) (omega arith))
 
-  out : (l : List ℕ) → All Wide l → (at : ℕ) → at ≤ length s → length s < at + widths w l → told (readAt (each (l ++ m) (sample w)) s at) ≡ Failed Short
+  out : (l : List ℕ) → All Wide l → (at : ℕ) → at ≤ length s → length s < at + widths w l → told (read_at (each (l ++ m) (sample w)) s at) ≡ Failed Short
   unfolding widths told
   out [] h at g q = absurd (omega arith)
   out (channel ∷ l) h at g q =
@@ -68,17 +68,17 @@ module _ (w : ℕ) (m s : List ℕ) where
       (λ r. each-done channel (l ++ m) (sample w) s at (wide-done channel at h.0 (omega arith)) ∙ out l h.1 (at + w) (omega arith) (omega arith))
 
 -- the channels before one, and those from it on
-stored-split : (n i : ℕ) (stored : List Bool) → storedFrom i stored ≡ storedFrom i (take n stored) ++ storedFrom (i + n) (drop n stored)
-unfolding storedFrom
+stored-split : (n i : ℕ) (stored : List Bool) → stored_from i stored ≡ stored_from i (take n stored) ++ stored_from (i + n) (drop n stored)
+unfolding stored_from
 stored-split zero i stored = let z : i + 0 ≡ i = omega arith in rw z
 stored-split (suc n) i [] = refl
 stored-split (suc n) i (flag ∷ stored) =
     let z : suc i + n ≡ i + suc n = omega arith in
     go flag (rw z at (stored-split n (suc i) stored))
   where
-    go : (t : Bool) → storedFrom (suc i) stored ≡ storedFrom (suc i) (take n stored) ++ storedFrom (i + suc n) (drop n stored)
-        → cond t (i ∷ storedFrom (suc i) stored) (storedFrom (suc i) stored)
-        ≡ cond t (i ∷ storedFrom (suc i) (take n stored)) (storedFrom (suc i) (take n stored)) ++ storedFrom (i + suc n) (drop n stored)
+    go : (t : Bool) → stored_from (suc i) stored ≡ stored_from (suc i) (take n stored) ++ stored_from (i + suc n) (drop n stored)
+        → cond t (i ∷ stored_from (suc i) stored) (stored_from (suc i) stored)
+        ≡ cond t (i ∷ stored_from (suc i) (take n stored)) (stored_from (suc i) (take n stored)) ++ stored_from (i + suc n) (drop n stored)
     go true e = ap (λ l. i ∷ l) e
     go false e = e
 
@@ -94,7 +94,7 @@ module _ (w : ℕ) (before behind : List ℕ) (h : All Wide before) (g : All Wid
   unfolding widths
   wide = widths-behind w before (S ∷ behind)
 
-  at-switch : at + offset ≤ length s → told (readAt (each (S ∷ behind) (sample w)) s (at + offset)) ≡ switched s at whole offset
+  at-switch : at + offset ≤ length s → told (read_at (each (S ∷ behind) (sample w)) s (at + offset)) ≡ switched s at whole offset
   unfolding told
   at-switch q =
       by_cases
@@ -104,7 +104,7 @@ module _ (w : ℕ) (before behind : List ℕ) (h : All Wide before) (g : All Wid
       each-failed S behind (sample w) s (at + offset) (sym (ap told (switch-short w s (at + offset) S refl (omega arith))))
       ∙ sym (switched-short s at whole offset (omega arith)))
     where
-      by-test : at + offset < length s → (t : Bool) → admitted (get_or s (at + offset) 0) ≡ t → told (readAt (each (S ∷ behind) (sample w)) s (at + offset)) ≡ switched s at whole offset
+      by-test : at + offset < length s → (t : Bool) → admitted (get_or s (at + offset) 0) ≡ t → told (read_at (each (S ∷ behind) (sample w)) s (at + offset)) ≡ switched s at whole offset
       by-test r true e =
           let z : at + offset + 1 ≡ at + (offset + 1) = omega arith in
           let x : offset + 1 + widths w behind ≡ whole = omega (arith, wide) in
@@ -114,7 +114,7 @@ module _ (w : ℕ) (before behind : List ℕ) (h : All Wide before) (g : All Wid
       by-test r false e =
           each-failed S behind (sample w) s (at + offset) (sym (ap told (switch-bad w s (at + offset) S refl r e))) ∙ sym (switched-bad s at whole offset r e)
 
-  by-switch : told (readAt (each (before ++ S ∷ behind) (sample w)) s at) ≡ switched s at whole offset
+  by-switch : told (read_at (each (before ++ S ∷ behind) (sample w)) s at) ≡ switched s at whole offset
   by-switch =
       by_cases
       (dec_lt (length s) (at + offset))
@@ -126,16 +126,16 @@ module _ (w : ℕ) (stored : List Bool) (e : get_or stored S false ≡ true) whe
   there = by_cases (dec_lt S (length stored)) (λ h. h) (λ h. impossible (cc (get_or-eq_default stored false {n = S} (omega arith))))
 
   abbrev before : List ℕ
-  before = storedFrom 0 (take S stored)
+  before = stored_from 0 (take S stored)
 
   abbrev behind : List ℕ
-  behind = storedFrom 11 (drop 11 stored)
+  behind = stored_from 11 (drop 11 stored)
 
   parted : channels stored ≡ before ++ S ∷ behind
   unfolding channels
   parted = stored-split S 0 stored ∙ ap (λ l. before ++ l) (stored-in stored S there e)
 
-  from-switch : widths w (storedFrom S (drop S stored)) ≡ 1 + widths w behind
+  from-switch : widths w (stored_from S (drop S stored)) ≡ 1 + widths w behind
   unfolding widths
   from-switch = width-in w stored S there e
 
@@ -146,26 +146,26 @@ module _ (w : ℕ) (stored : List Bool) (e : get_or stored S false ≡ true) whe
   wide-behind : All Wide behind
   wide-behind = no_switch (drop 11 stored) 11 (λ j q. absurd (omega arith))
 
-  sized : widths w (channels stored) ≡ widths w before + widths w (storedFrom S (drop S stored))
+  sized : widths w (channels stored) ≡ widths w before + widths w (stored_from S (drop S stored))
   unfolding channels
-  sized = ap (widths w) (stored-split S 0 stored) ∙ widths-behind w before (storedFrom S (drop S stored))
+  sized = ap (widths w) (stored-split S 0 stored) ∙ widths-behind w before (stored_from S (drop S stored))
 
   -- where a point with a switch ends
   pub switch-point : (s : List ℕ) (at : ℕ) → at ≤ length s
-      → told (readAt (point w stored) s at) ≡ switched s at (width w stored) (width w stored - widths w (storedFrom S (drop S stored)))
+      → told (read_at (point w stored) s at) ≡ switched s at (width w stored) (width w stored - widths w (stored_from S (drop S stored)))
   unfolding point width
   switch-point s at h =
-      let o : widths w before ≡ widths w (channels stored) - widths w (storedFrom S (drop S stored)) = omega (arith, sized) in
-      ap (λ l. told (readAt (each l (sample w)) s at)) parted
+      let o : widths w before ≡ widths w (channels stored) - widths w (stored_from S (drop S stored)) = omega (arith, sized) in
+      ap (λ l. told (read_at (each l (sample w)) s at)) parted
       ∙ by-switch w before behind wide-before wide-behind s at h
       ∙ ap₂ (switched s at) (sym (ap (widths w) parted)) o
 
   -- by the width of a point, and of what it has from the switch on
-  module _ (all part : ℕ) (x : all ≡ width w stored) (y : part ≡ widths w (storedFrom S (drop S stored))) where
+  module _ (all part : ℕ) (x : all ≡ width w stored) (y : part ≡ widths w (stored_from S (drop S stored))) where
     pub switch-inside : (part ≤ all) × (all - part < all)
     unfolding width
     switch-inside = omega (arith, sized, from-switch)
 
     pub switch-points : (s : List ℕ) (n at : ℕ) → at ≤ length s
-        → told (readAt (times n (point w stored)) s at) ≡ repeated (λ p. switched s p all (all - part)) n at
+        → told (read_at (times n (point w stored)) s at) ≡ repeated (λ p. switched s p all (all - part)) n at
     switch-points s n at h = rw (x, y) (times-repeated (point w stored) s _ (switch-point s) n at h)

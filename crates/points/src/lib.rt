@@ -1,11 +1,11 @@
 // Sample points of ISO/IEC 19794-7:2007 (7.4.2, 8.4), at the width of either format: measured and judged.
 ghost use Rattle.std.specs.Prelude.{◌≡◌, ℕ, ◌+◌, ◌*◌, ◌≤◌, ◌<◌, length, drop};
-ghost use Rattle.formats.specs.Reader.{readAt, times};
+ghost use Rattle.formats.specs.Reader.{read_at, times};
 ghost use Rattle.formats.specs.Told.{told, repeated};
 ghost use Rattle.formats.specs.Jump.{ends};
 ghost use Rattle.formats.specs.declared.Outcome.TheVariants.{Failed};
 ghost use Rattle.channels.specs.Channel.{width_of};
-ghost use Rattle.points.specs.Points.{storedFrom, point, sampleSize, widths, width as pointWidth};
+ghost use Rattle.points.specs.Points.{stored_from, point, sample_size, widths, width as point_width};
 ghost use Rattle.points.specs.Parts.{switched};
 
 use channels::Format;
@@ -14,7 +14,7 @@ use tip_switch::Switch;
 
 // How many bytes a channel's number has in a sample point: one for S, as many as the format says for any other.
 pub fn sample_size(format: Format, channel: usize) -> usize
-    ensures { (result ≡ sampleSize (width_of format) channel) × (result ≤ 2) }
+    ensures { (result ≡ sample_size (width_of format) channel) × (result ≤ 2) }
 {
     if channel == channels::S {
         return 1;
@@ -27,7 +27,7 @@ pub fn sample_size(format: Format, channel: usize) -> usize
 
 // How many bytes of a sample point the channels from `first` on have.
 fn width_from(format: Format, stored: [bool; 16], first: usize) -> usize
-    ensures { (result ≡ widths (width_of format) (storedFrom first (drop first stored))) × (result ≤ 32) }
+    ensures { (result ≡ widths (width_of format) (stored_from first (drop first stored))) × (result ≤ 32) }
 {
     let mut w: usize = 0;
     let mut i: usize = first;
@@ -42,7 +42,7 @@ fn width_from(format: Format, stored: [bool; 16], first: usize) -> usize
 
 // How many bytes a sample point has that holds numbers of these channels.
 pub fn width(format: Format, stored: [bool; 16]) -> usize
-    ensures { (result ≡ pointWidth (width_of format) stored) × (result ≤ 32) }
+    ensures { (result ≡ point_width (width_of format) stored) × (result ≤ 32) }
 {
     width_from(format, stored, 0)
 }
@@ -117,7 +117,7 @@ fn judge_within(
     count: usize,
 ) -> Outcome
     requires { start ≤ length bytes.now }
-    ensures { result ≡ told (readAt (times count (point (width_of format) stored)) bytes.now start) }
+    ensures { result ≡ told (read_at (times count (point (width_of format) stored)) bytes.now start) }
 {
     let width = width_from(format, stored, 0);
     if stored[channels::S] {
@@ -136,7 +136,7 @@ pub fn judge(
     stored: [bool; 16],
     count: usize,
 ) -> Outcome
-    ensures { result ≡ told (readAt (times count (point (width_of format) stored)) bytes.now start) }
+    ensures { result ≡ told (read_at (times count (point (width_of format) stored)) bytes.now start) }
 {
     if start <= bytes.len() {
         return judge_within(bytes, start, format, stored, count);

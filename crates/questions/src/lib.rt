@@ -1,5 +1,5 @@
 // Questions: the name of each is found, and the bytes that it is asked of; the rooms of the questions answer.
-use hex::Amount;
+use hexadecimal::Amount;
 use orders::Order;
 
 const JUDGE: usize = 0;
@@ -103,7 +103,7 @@ fn of_number_and_bytes(
 }
 
 fn rest_of(line: &[u8], at: usize, space: &mut [u8; 131072]) -> Amount {
-    hex::bytes_in(words::part(line, at, line.len()), space)
+    hexadecimal::bytes_in(words::part(line, at, line.len()), space)
 }
 
 // The bytes that the rest of a line says. A line says at most half as many bytes as it has.
@@ -125,7 +125,7 @@ fn of_bytes(
         used,
         question,
         index,
-        hex::first(&space, amount.count),
+        hexadecimal::first(&space, amount.count),
     )
 }
 

@@ -9,7 +9,7 @@ use Rattle.readings.specs.declared.Reading.{Reading}
 use Rattle.readings.specs.declared.Reading.TheVariants.{Thousandths, Refused}
 use Rattle.readings.specs.declared.PlaceReading.{PlaceReading}
 use Rattle.readings.specs.declared.PlaceReading.TheVariants.{Absent, Present}
-use Rattle.readings.specs.Thousandths.{told, toldPlace, reading, placeReading}
+use Rattle.readings.specs.Thousandths.{told, told_place, reading, place_reading}
 
 same : (r q : Reading) → told r ≡ told q → r ≡ q
 same (Thousandths z) (Thousandths y) e = cc
@@ -17,7 +17,7 @@ same (Thousandths z) (Refused f) e = impossible (cc)
 same (Refused f) (Thousandths y) e = impossible (cc)
 same (Refused f) (Refused g) e = ap Refused (cc)
 
-same_place : (r q : PlaceReading) → toldPlace r ≡ toldPlace q → r ≡ q
+same_place : (r q : PlaceReading) → told_place r ≡ told_place q → r ≡ q
 same_place Absent Absent e = refl
 same_place Absent (Present (Thousandths y)) e = impossible (cc)
 same_place Absent (Present (Refused f)) e = impossible (cc)
@@ -28,5 +28,5 @@ same_place (Present r) (Present q) e = ap Present (same r q e)
 pub to-thousandths-one : (raw : ℤ) (e f : ℕ) → OneAnswer (λ r. told r ≡ reading raw e f)
 to-thousandths-one raw e f r q h k = same r q (h ∙ sym k)
 
-pub place-thousandths-one : (place : Place) (scaling : Attribute) → OneAnswer (λ r. toldPlace r ≡ placeReading place scaling)
+pub place-thousandths-one : (place : Place) (scaling : Attribute) → OneAnswer (λ r. told_place r ≡ place_reading place scaling)
 place-thousandths-one place scaling r q h k = same_place r q (h ∙ sym k)

@@ -3,7 +3,7 @@ use Rattle.std.specs.Prelude.{◌≡◌, refl, ℕ, zero, suc, ◌+◌, ◌*◌,
 use Rattle.std.proofs.Math.Path.{ap}
 use Rattle.std.proofs.Common.{◌∙◌, add-mul, mul-pos, mul_left_comm, mul-le-mul, mul-le-mul_left, div-lt_iff_lt-mul, arith, leb→le, le→leb, pow_pos}
 use Rattle.std.proofs.Math.IntN.{*ℤ_comm}
-use Rattle.readings.specs.Thousandths.{halfUp, nearest, numerator, denominator, thousandths}
+use Rattle.readings.specs.Thousandths.{half_up, nearest, numerator, denominator, thousandths}
 use Rattle.readings.specs.NearestLaws.{Nearest, nearest-is, nearest-only, nearest-opposite, times-opposite}
 
 -- ---- The number
@@ -34,14 +34,14 @@ module _ (raw : ℤ) (e f : ℕ) where
 -- ---- The ends
 
 -- a denominator is 2048 or more, so a reading is at most 65536000 times its raw number
-most : (k d : ℕ) → 2048 ≤ d → halfUp (2048 * k) d ≤ k
+most : (k d : ℕ) → 2048 ≤ d → half_up (2048 * k) d ≤ k
 most k d h =
     let m : k * 2048 ≤ k * d = mul-le-mul_left k h in
     let l : 2 * (2048 * k) + d < (k + 1) * (2 * d) = rw (add-mul k 1 (2 * d), mul_left_comm k 2 d) (omega arith) in
-    let b : halfUp (2048 * k) d < k + 1 = (div-lt_iff_lt-mul {k = 2 * d} {x = 2 * (2048 * k) + d} {y = k + 1} (omega arith)).1 l in
+    let b : half_up (2048 * k) d < k + 1 = (div-lt_iff_lt-mul {k = 2 * d} {x = 2 * (2048 * k) + d} {y = k + 1} (omega arith)).1 l in
     omega arith
 
-size : (a e f : ℕ) → halfUp (2 ^ 27 * (1000 * a)) (denominator e f) ≤ 65536000 * a
+size : (a e f : ℕ) → half_up (2 ^ 27 * (1000 * a)) (denominator e f) ≤ 65536000 * a
 size a e f =
     let d : 2048 ≤ denominator e f = mul-le-mul {n₁ = 2048} {m₁ = 1} {n₂ = 2048 + f} {m₂ = 2 ^ e} (omega arith) (pow_pos e) in
     let n : 2 ^ 27 * (1000 * a) ≡ 2048 * (65536000 * a) = omega arith in
@@ -60,11 +60,11 @@ unfolding thousandths nearest
 ends (pos a) e f l h =
     let t = leb→le a 65535 h.le in
     let s = size a e f in
-    (record { le = tt }, record { le = le→leb (halfUp (2 ^ 27 * (1000 * a)) (denominator e f)) 4294901760000 (omega arith) })
+    (record { le = tt }, record { le = le→leb (half_up (2 ^ 27 * (1000 * a)) (denominator e f)) 4294901760000 (omega arith) })
 ends (negsuc a) e f l h =
     let t = leb→le a 32767 l.le in
     let s = size (suc a) e f in
-    rw (thousandths-opposite (pos (suc a)) e f) (below 2147483647999 (halfUp (2 ^ 27 * (1000 * suc a)) (denominator e f)) (omega arith), below-pos 4294901760000 (halfUp (2 ^ 27 * (1000 * suc a)) (denominator e f)))
+    rw (thousandths-opposite (pos (suc a)) e f) (below 2147483647999 (half_up (2 ^ 27 * (1000 * suc a)) (denominator e f)) (omega arith), below-pos 4294901760000 (half_up (2 ^ 27 * (1000 * suc a)) (denominator e f)))
 
 -- both are met
 pub ends-met : (thousandths (negsuc 32767) 0 0 ≡ negsuc 2147483647999) × (thousandths (pos 65535) 0 0 ≡ pos 4294901760000)

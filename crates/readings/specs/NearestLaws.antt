@@ -6,7 +6,7 @@ use Rattle.std.proofs.Math.Logic.{by_cases}
 use Rattle.std.proofs.Math.Nat.{div-eq_of_lt-le}
 use Rattle.std.proofs.Math.Decide.{dec_lt}
 use Rattle.std.proofs.Math.IntN.{neg_ℤ, sub_ℕ, +ℤ_idr, +ℤ_invr, neg_ℤ-+ℤ, neg_ℤ-neg_ℤ}
-use Rattle.readings.specs.Thousandths.{halfUp, nearest}
+use Rattle.readings.specs.Thousandths.{half_up, nearest}
 
 -- q is nearest to n / d: twice the distance of n from q · d is at most d, and where it is d itself, q · d lies further from zero than n
 pub record Nearest (n : ℤ) (d : ℕ) (q : ℤ) : Type 0 where
@@ -48,22 +48,22 @@ opposite {n} {q} {d} h = record {
 
 module _ (a d : ℕ) (some : 0 < d) where
   -- 2a + d lies in the span of 2d that begins at 2d times the nearest number
-  spans : (halfUp a d * (2 * d) ≤ 2 * a + d) × (2 * a + d < (halfUp a d + 1) * (2 * d))
+  spans : (half_up a d * (2 * d) ≤ 2 * a + d) × (2 * a + d < (half_up a d + 1) * (2 * d))
   spans =
       let e = div-add-mod' (2 * a + d) (2 * d) in
       let r = mod-lt (2 * a + d) {m = 2 * d} (omega arith) in
-      let u = halfUp a d * (2 * d) in
-      (omega (arith, e), rw (add-mul (halfUp a d) 1 (2 * d)) (omega (arith, e, r)))
+      let u = half_up a d * (2 * d) in
+      (omega (arith, e), rw (add-mul (half_up a d) 1 (2 * d)) (omega (arith, e, r)))
 
-  is-nearest : Nearest (pos a) d (pos (halfUp a d))
+  is-nearest : Nearest (pos a) d (pos (half_up a d))
   is-nearest =
-      let b = halfUp a d in
+      let b = half_up a d in
       let l = rw (mul_left_comm b 2 d) at spans.0 in
       let u = rw (add-mul b 1 (2 * d), mul_left_comm b 2 d) at spans.1 in
       let e = apart a (b * d) in
       record { near = omega (arith, e, l, u); away = λ h. omega (arith, e, l, u) }
 
-  only : (q : ℤ) → Nearest (pos a) d q → q ≡ pos (halfUp a d)
+  only : (q : ℤ) → Nearest (pos a) d q → q ≡ pos (half_up a d)
   only (pos b) h =
       let e = apart a (b * d) in
       let n : 2 * nat_abs (pos a -ℤ pos b *ℤ pos d) ≤ d = h.near in

@@ -4,7 +4,7 @@ use Rattle.channels.specs.declared.Attribute.{Attribute}
 use Rattle.channels.specs.declared.Place.TheVariants.{Number}
 use Rattle.readings.specs.declared.Reading.TheVariants.{Thousandths}
 use Rattle.readings.specs.declared.PlaceReading.TheVariants.{Present}
-use Rattle.readings.specs.Thousandths.{told, toldPlace, reading, placeReading}
+use Rattle.readings.specs.Thousandths.{told, told_place, reading, place_reading}
 
 -- ---- What reads as what: the promise of each function, where its answer is a reading
 
@@ -14,7 +14,7 @@ ReadsAs e f raw x = told (Thousandths x) ≡ reading raw e f
 
 -- place_thousandths, of a number place and its channel's scaling value, answers `Present(Thousandths(x))`
 abbrev pub PlaceReadsAs : (scaling : Attribute) (raw x : ℤ) → Type 0
-PlaceReadsAs scaling raw x = toldPlace (Present (Thousandths x)) ≡ placeReading (Number raw) scaling
+PlaceReadsAs scaling raw x = told_place (Present (Thousandths x)) ≡ place_reading (Number raw) scaling
 
 -- ---- The claims
 

@@ -10,21 +10,21 @@ use Rattle.std.proofs.Math.IntN.{pos, negsuc, neg_ℤ, pos-ne-negsuc}
 use Rattle.channels.specs.declared.Attribute.{Attribute}
 use Rattle.channels.specs.declared.Place.TheVariants.{Number}
 use Rattle.refusals.specs.Stages.{require, or_else}
-use Rattle.refusals.specs.Ranges.{firstMisfit}
+use Rattle.refusals.specs.Ranges.{first_misfit}
 use Rattle.calibration.specs.Reading as calibration
-use Rattle.calibration.specs.Reading.{exponentBy, fractionBy}
+use Rattle.calibration.specs.Reading.{exponent_by, fraction_by}
 use Rattle.calibration.specs.Laws.{value_read, value-placed}
-use Rattle.readings.specs.Thousandths.{halfUp, nearest, denominator, thousandths}
+use Rattle.readings.specs.Thousandths.{half_up, nearest, denominator, thousandths}
 use Rattle.readings.specs.Laws.{thousandths-opposite, below, below-pos}
 use Rattle.readings.specs.Order.{ReadsAs, PlaceReadsAs, KeepsOrder, KeepsApart, AtMostThousand}
 
 -- ---- Quotients and signs
 
 -- where n is k divisors or more above m, it is rounded to k or more above what m is
-grows : (k m n d : ℕ) → 0 < d → m + k * d ≤ n → halfUp m d + k ≤ halfUp n d
+grows : (k m n d : ℕ) → 0 < d → m + k * d ≤ n → half_up m d + k ≤ half_up n d
 grows k m n d some h =
     let l = div-mul-le_self (2 * m + d) (2 * d) in
-    (le-div_iff_mul-le {k = 2 * d} {x = halfUp m d + k} {y = 2 * n + d} (omega arith)).1 (rw (add-mul (halfUp m d) k (2 * d), mul_left_comm k 2 d) (omega arith))
+    (le-div_iff_mul-le {k = 2 * d} {x = half_up m d + k} {y = 2 * n + d} (omega arith)).1 (rw (add-mul (half_up m d) k (2 * d), mul_left_comm k 2 d) (omega arith))
 
 opposite-order : (m n : ℕ) → n ≤ m → neg_ℤ (pos m) ≤ℤ neg_ℤ (pos n)
 opposite-order zero zero h = record { le = tt }
@@ -40,7 +40,7 @@ opposite-other m (suc n) h = pos-ne-negsuc m n
 module _ (e f : ℕ) where
   -- the size of the thousandths of a raw number of size a
   abbrev size : ℕ → ℕ
-  size a = halfUp (2 ^ 27 * (1000 * a)) (denominator e f)
+  size a = half_up (2 ^ 27 * (1000 * a)) (denominator e f)
 
   size-grows : (k a b : ℕ) → 2 ^ 27 * (1000 * a) + k * denominator e f ≤ 2 ^ 27 * (1000 * b) → size a + k ≤ size b
   size-grows k a b h = grows k (2 ^ 27 * (1000 * a)) (2 ^ 27 * (1000 * b)) (denominator e f) (mul-pos (omega arith) (pow_pos e)) h
@@ -97,20 +97,20 @@ module _ (e f : ℕ) where
 -- ---- What place_thousandths answers, of number places of one channel: they are read by one E and F
 
 module _ (scaling : Attribute) where
-  by-one-scale : (raw x : ℤ) → PlaceReadsAs scaling raw x → x ≡ thousandths raw (exponentBy scaling) (fractionBy scaling)
+  by-one-scale : (raw x : ℤ) → PlaceReadsAs scaling raw x → x ≡ thousandths raw (exponent_by scaling) (fraction_by scaling)
   by-one-scale raw x h = (value-placed thousandths (Number raw) scaling x h).is
 
   pub place-thousandths-keeps-order : KeepsOrder (PlaceReadsAs scaling)
-  place-thousandths-keeps-order raw other x y h p q = rw (by-one-scale raw x p, by-one-scale other y q) (order (exponentBy scaling) (fractionBy scaling) raw other h)
+  place-thousandths-keeps-order raw other x y h p q = rw (by-one-scale raw x p, by-one-scale other y q) (order (exponent_by scaling) (fraction_by scaling) raw other h)
 
-  pub place-thousandths-keeps-apart : AtMostThousand (exponentBy scaling) (fractionBy scaling) → KeepsApart (PlaceReadsAs scaling)
-  place-thousandths-keeps-apart fine raw other x y h p q t = h (one-raw (exponentBy scaling) (fractionBy scaling) fine raw other (sym (by-one-scale raw x p) ∙ t ∙ by-one-scale other y q))
+  pub place-thousandths-keeps-apart : AtMostThousand (exponent_by scaling) (fraction_by scaling) → KeepsApart (PlaceReadsAs scaling)
+  place-thousandths-keeps-apart fine raw other x y h p q t = h (one-raw (exponent_by scaling) (fraction_by scaling) fine raw other (sym (by-one-scale raw x p) ∙ t ∙ by-one-scale other y q))
 
 -- ---- The bound is sharp
 
 -- at E 25, F 1953, just above 1000, two neighbours share a reading
 pub neighbours-share : ReadsAs 25 1953 (pos 2000) (pos 2000) × ReadsAs 25 1953 (pos 2001) (pos 2000)
-unfolding calibration.reading calibration.numbers firstMisfit or_else require calibration.readWhere thousandths nearest
+unfolding calibration.reading calibration.numbers first_misfit or_else require calibration.read_where thousandths nearest
 neighbours-share = (refl, refl)
 
 -- at E 25, F 1952, just 1000, none do

@@ -11,13 +11,13 @@ use Rattle.readings.specs.declared.PlaceReading as placed
 -- ---- The number
 
 -- the whole number nearest to n / d, a half going up
-abbrev pub halfUp : ℕ → ℕ → ℕ
-halfUp n d = (2 * n + d) / (2 * d)
+abbrev pub half_up : ℕ → ℕ → ℕ
+half_up n d = (2 * n + d) / (2 * d)
 
 -- the whole number nearest to n / d, a half going away from zero: the size is rounded, and the sign kept (`negsuc n` is -(n + 1))
 unfoldable pub nearest : ℤ → ℕ → ℤ
-nearest (pos n) d = pos (halfUp n d)
-nearest (negsuc n) d = neg_ℤ (pos (halfUp (suc n) d))
+nearest (pos n) d = pos (half_up n d)
+nearest (negsuc n) d = neg_ℤ (pos (half_up (suc n) d))
 
 -- scale = (1 + F/2048) · 2^(E-16), so 1000 · raw / scale is 2^27 · (1000 · raw) over (2048 + F) · 2^E
 abbrev pub numerator : ℤ → ℤ
@@ -40,8 +40,8 @@ abbrev pub reading : (raw : ℤ) (e f : ℕ) → Answer
 reading = calibration.reading thousandths
 
 -- place_thousandths
-abbrev pub placeReading : (place : Place) (scaling : Attribute) → Answer
-placeReading = calibration.placeReading thousandths
+abbrev pub place_reading : (place : Place) (scaling : Attribute) → Answer
+place_reading = calibration.place_reading thousandths
 
 -- ---- What the code's answers say
 
@@ -49,6 +49,6 @@ abbrev pub told : Reading → Answer
 told (Thousandths z) = value z
 told (Refused refusal) = refused refusal
 
-abbrev pub toldPlace : placed.PlaceReading → Answer
-toldPlace placed.TheVariants.Absent = absent
-toldPlace (placed.TheVariants.Present r) = told r
+abbrev pub told_place : placed.PlaceReading → Answer
+told_place placed.TheVariants.Absent = absent
+told_place (placed.TheVariants.Present r) = told r

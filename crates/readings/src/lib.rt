@@ -1,7 +1,7 @@
 // Readings in thousandths, by a channel's scaling value (7.3.4.3).
 ghost use Rattle.std.specs.Prelude.{◌≡◌, ◌≤◌, pos, nat_abs, ◌<ℤ◌};
 ghost use Rattle.calibration.specs.Reading.{InRange};
-ghost use Rattle.readings.specs.Thousandths.{nearest, denominator, thousandths, told, toldPlace, reading, placeReading};
+ghost use Rattle.readings.specs.Thousandths.{nearest, denominator, thousandths, told, told_place, reading, place_reading};
 
 use calibration::Calibrated;
 use channels::{Attribute, Place};
@@ -65,7 +65,7 @@ pub fn to_thousandths(raw: i64, e: u64, f: u64) -> Reading
 
 // One place of a point, with its channel's scaling value.
 pub fn place_thousandths(place: Place, scaling: Attribute) -> PlaceReading
-    ensures { toldPlace result ≡ placeReading place scaling }
+    ensures { told_place result ≡ place_reading place scaling }
 {
     match calibration::calibrate(place, scaling) {
         Calibrated::Absent => PlaceReading::Absent,

@@ -13,10 +13,10 @@ use lib.Seq.{get_or-set_same, get_or-set_other}
 use Rattle.formats.specs.Fixed.{times-length}
 use Rattle.formats.specs.Bytes.{impossible}
 use Rattle.formats.specs.Compose.{ok-value}
-use Rattle.formats.specs.Reader.{ok, readAt, times}
+use Rattle.formats.specs.Reader.{ok, read_at, times}
 use Rattle.channels.specs.Channel.{S}
 use Rattle.tip_switch.specs.Switch.{admitted, state_of}
-use Rattle.points.specs.Points.{storedFrom, channels, sample, point, sampleSize, widths, width}
+use Rattle.points.specs.Points.{stored_from, channels, sample, point, sample_size, widths, width}
 use Rattle.points.specs.SampleLaws.{switch-ok, switch-bad}
 use Rattle.points.specs.Laws.{nth-point, nth-sample, point-size, widths-behind}
 use Rattle.points.proofs.Samples.{stored-in, stored-out, stored-none}
@@ -30,7 +30,7 @@ use Rattle.record_columns.specs.Parts.{NumberAt, ChannelFilled, PointsFilled}
 -- ---- One number
 
 -- what is read is one number
-pub number_is : (s : List ℕ) (channel at : ℕ) {v : ℤ} {end : ℕ} → readAt (sample 2 channel) s at ≡ ok v end → NumberAt s channel at v
+pub number_is : (s : List ℕ) (channel at : ℕ) {v : ℤ} {end : ℕ} → read_at (sample 2 channel) s at ≡ ok v end → NumberAt s channel at v
 number_is s channel at e u n q = ok-value (sym e ∙ q)
 
 -- of S it is the state that its byte stands for, where that was admitted
@@ -68,13 +68,13 @@ module _ (s : List ℕ) (start : ℕ) (stored : List Bool) (count p d : ℕ) whe
   -- the numbers of the first r stored channels are filled in: of point i and rank q the number stands i steps and q strides behind the start
   abbrev pub RanksFilled : (r : ℕ) → List ℤ → Type 0
   RanksFilled r values =
-      (points : List (List ℤ)) (end : ℕ) → readAt (times count (point 2 stored)) s start ≡ ok points end
+      (points : List (List ℤ)) (end : ℕ) → read_at (times count (point 2 stored)) s start ≡ ok points end
       → (i q : ℕ) → i < count → q < r → get_or values (i * p + q * d) (pos 0) ≡ get_or (get_or points i []) q (pos 0)
 
   -- some channels are gone through: the stored ones before, and those from `channel` on
   pub record Gone (channel at from : ℕ) (values : List ℤ) : Type 0 where
     pub before : List ℕ
-    pub all : channels stored ≡ before ++ storedFrom channel (drop channel stored)
+    pub all : channels stored ≡ before ++ stored_from channel (drop channel stored)
     pub place : at ≡ start + widths 2 before
     pub index : from ≡ length before * d
     pub many : length values ≡ count * size stored
@@ -101,7 +101,7 @@ module _ (s : List ℕ) (start : ℕ) (stored : List Bool) (count p d : ℕ) whe
       rank = length gone.before
 
       abbrev rest : List ℕ
-      rest = storedFrom (channel + 1) (drop (channel + 1) stored)
+      rest = stored_from (channel + 1) (drop (channel + 1) stored)
 
       next : channels stored ≡ gone.before ++ (channel ∷ rest)
       next = gone.all ∙ ap (λ l. gone.before ++ l) (stored-in stored channel within is)
@@ -112,14 +112,14 @@ module _ (s : List ℕ) (start : ℕ) (stored : List Bool) (count p d : ℕ) whe
       index_is : (i q : ℕ) → i * p + q * d ≡ orders.index order count (size stored) i q
       index_is i q = rw (step, stride)
 
-      wide : widths 2 gone.before + sampleSize 2 channel ≤ width 2 stored
+      wide : widths 2 gone.before + sample_size 2 channel ≤ width 2 stored
       unfolding width widths
       wide = omega (arith, ap (widths 2) next, widths-behind 2 gone.before (channel ∷ rest))
 
       pub some : 0 < size stored
       some = omega (arith, among)
 
-      pub place-within : at + sampleSize 2 channel ≤ length s + width 2 stored
+      pub place-within : at + sample_size 2 channel ≤ length s + width 2 stored
       place-within = omega (arith, room, wide, gone.place)
 
       pub next-within : from + d ≤ length values + size stored
@@ -127,7 +127,7 @@ module _ (s : List ℕ) (start : ℕ) (stored : List Bool) (count p d : ℕ) whe
           let z : from + d ≡ (rank + 1) * d = omega (arith, gone.index) in
           omega (arith, z, ap (λ n. (rank + 1) * n) stride, strides-within count (size stored) rank among order, gone.many)
 
-      pub bytes-there : AllAt (λ i. i + sampleSize 2 channel ≤ length s) (width 2 stored) count at
+      pub bytes-there : AllAt (λ i. i + sample_size 2 channel ≤ length s) (width 2 stored) count at
       bytes-there i h = omega (arith, room, wide, gone.place, mul-le-mul_right {m = suc i} {n = count} (width 2 stored) (omega arith))
 
       pub places-there : AllAt (λ i. i < length values) p count from
@@ -155,9 +155,9 @@ module _ (s : List ℕ) (start : ℕ) (stored : List Bool) (count p d : ℕ) whe
             let x : i * p + rank * d ≡ from + i * p = omega (arith, gone.index) in
             rw z
             (ap (λ j. get_or after j (pos 0)) x
-            ∙ fills.numbers i h _ _ (ap (readAt (sample 2 channel) s) (sym y) ∙ number)))
+            ∙ fills.numbers i h _ _ (ap (read_at (sample 2 channel) s) (sym y) ∙ number)))
 
-        pub gone-next : Gone (channel + 1) (at + sampleSize 2 channel) (from + d) after
+        pub gone-next : Gone (channel + 1) (at + sample_size 2 channel) (from + d) after
         unfolding widths
         gone-next =
             let n = length-append gone.before (channel ∷ []) in

@@ -8,54 +8,54 @@ use borrow.Author.Tests.{lt-ltb, le-ltb}
 use lib.Dec.{eqb}
 use lib.IntN.{ℤ}
 use lib.ListN.{length}
-use Rattle.formats.specs.Reader.{ok, run, readAt}
+use Rattle.formats.specs.Reader.{ok, run, read_at}
 use Rattle.formats.specs.Fixed.{fixed-times}
 use Rattle.formats.specs.Told.{failed}
 use Rattle.formats.specs.declared.Failure.{Failure}
 use Rattle.formats.specs.declared.Failure.TheVariants.{Short, Bad}
 use Rattle.formats.specs.declared.Outcome.TheVariants.{Done, Failed}
-use Rattle.refusals.specs.Table.{refusalOf}
+use Rattle.refusals.specs.Table.{refusal_of}
 use Rattle.refusals.specs.declared.Refusal.TheVariants.{LeftOver, Amount}
 use Rattle.points.specs.Points.{point, width}
 use Rattle.points.specs.Laws.{fixed-point}
 use Rattle.orders.specs.Orders.{size}
 use Rattle.orders.specs.declared.Order.TheVariants.{Column}
 use Rattle.channels.specs.Descriptors.{stored}
-use Rattle.records.specs.Record.{Record, fullRecord}
+use Rattle.records.specs.Record.{Record, full_record}
 use Rattle.record_fronts.specs.Front.{front}
-use Rattle.record_fronts.specs.Fronted.{frontIn}
+use Rattle.record_fronts.specs.Fronted.{front_in}
 use Rattle.record_fronts.specs.declared.Front.{Front}
-use Rattle.record_layouts.specs.Layout.{layoutAt}
+use Rattle.record_layouts.specs.Layout.{layout_at}
 use Rattle.record_layouts.specs.LayoutLaws.{Lying, record-read, failed-read}
 use Rattle.record_layouts.specs.declared.Layout.{Layout}
-use Rattle.record_columns.specs.Columns.{Filling, filling, amount, columns, columnsRead}
+use Rattle.record_columns.specs.Columns.{Filling, filling, amount, columns, columns_read}
 use Rattle.record_columns.specs.Parts.{PointsFilled}
 use Rattle.record_columns.specs.declared.Filled.TheVariants.{Columns, Refused}
 
-refused-of-failed : (bytes : ℕ) (values : List ℤ) (f : Failure) → filling (Refused (refusalOf f)) values ≡ columnsRead bytes (failed f) values
-unfolding columnsRead
+refused-of-failed : (bytes : ℕ) (values : List ℤ) (f : Failure) → filling (Refused (refusal_of f)) values ≡ columns_read bytes (failed f) values
+unfolding columns_read
 refused-of-failed bytes values Short = refl
 refused-of-failed bytes values (Bad k p) = refl
 
-module _ (s : List ℕ) (l : Layout) (e : l ≡ layoutAt s 0) (values : List ℤ) where
+module _ (s : List ℕ) (l : Layout) (e : l ≡ layout_at s 0) (values : List ℤ) where
   abbrev meant : Filling
-  meant = columnsRead (length s) (run fullRecord s) values
+  meant = columns_read (length s) (run full_record s) values
 
-  pub no_record : {f : Failure} → l.outcome ≡ Failed f → filling (Refused (refusalOf f)) values ≡ meant
-  no_record {f} o = refused-of-failed (length s) values f ∙ sym (ap (λ x. columnsRead (length s) x values) (failed-read s l e o))
+  pub no_record : {f : Failure} → l.outcome ≡ Failed f → filling (Refused (refusal_of f)) values ≡ meant
+  no_record {f} o = refused-of-failed (length s) values f ∙ sym (ap (λ x. columns_read (length s) x values) (failed-read s l e o))
 
   module _ {end : ℕ} (o : l.outcome ≡ Done end) where
     abbrev whole : Record
     whole = (record-read s l e o).0
 
-    read : run fullRecord s ≡ ok whole end
+    read : run full_record s ≡ ok whole end
     read = (record-read s l e o).1
 
     pub left_over : end < length s → filling (Refused (LeftOver end)) values ≡ meant
-    unfolding columnsRead
+    unfolding columns_read
     left_over h = sym (rw (read, lt-ltb end (length s) h))
 
-    module _ (f : Front) (q : f ≡ frontIn (readAt front s 0)) where
+    module _ (f : Front) (q : f ≡ front_in (read_at front s 0)) where
       lying : Lying s f l whole end
       lying = subst (λ h. Lying s h l whole end) (sym q) (record-read s l e o).2
 
@@ -72,11 +72,11 @@ module _ (s : List ℕ) (l : Layout) (e : l ≡ layoutAt s 0) (values : List ℤ
 
       module _ (all : length s ≤ end) where
         pub other-amount : eqb (length values) (l.count * size f.stored) ≡ false → filling (Refused Amount) values ≡ meant
-        unfolding columnsRead
+        unfolding columns_read
         other-amount h = sym (rw (read, le-ltb end (length s) all, ap (eqb (length values)) (sym amount-is) ∙ h))
 
         pub columns-filled : eqb (length values) (l.count * size f.stored) ≡ true → (after : List ℤ) → PointsFilled s f.points f.stored l.count Column after → filling Columns after ≡ meant
-        unfolding columnsRead
+        unfolding columns_read
         columns-filled h after g =
             let z : after ≡ columns whole = subst (λ flags. PointsFilled s f.points flags l.count Column after) lying.stores g whole.points l.extension lying.points in
             ap (filling Columns) z ∙ sym (rw (read, le-ltb end (length s) all, ap (eqb (length values)) (sym amount-is) ∙ h))

@@ -2,12 +2,12 @@
 use Rattle.std.specs.Prelude.{◌≡◌, cond, List, ℕ, ◌*◌, eqb, ltb, ℤ, length}
 use Rattle.formats.specs.Reader.{Answer, ok, short, bad, run}
 use Rattle.formats.specs.declared.Failure.TheVariants.{Short, Bad}
-use Rattle.refusals.specs.Table.{refusalOf}
+use Rattle.refusals.specs.Table.{refusal_of}
 use Rattle.refusals.specs.declared.Refusal.TheVariants.{LeftOver, Amount}
 use Rattle.orders.specs.Orders.{size, values_of}
 use Rattle.orders.specs.declared.Order.TheVariants.{Column}
 use Rattle.channels.specs.Descriptors.{stored}
-use Rattle.records.specs.Record.{Record, fullRecord}
+use Rattle.records.specs.Record.{Record, full_record}
 use Rattle.record_columns.specs.declared.Filled.{Filled}
 use Rattle.record_columns.specs.declared.Filled.TheVariants.{Columns, Refused}
 
@@ -28,12 +28,12 @@ abbrev pub columns : Record → List ℤ
 columns r = values_of Column (size (stored r.description)) r.points
 
 -- by what reading a slice of `bytes` bytes answers: the slice's own refusals, then 13, and on each the buffer is as it was
-unfoldable pub columnsRead : (bytes : ℕ) → Answer Record → (values : List ℤ) → Filling
-columnsRead bytes (ok r n) values =
+unfoldable pub columns_read : (bytes : ℕ) → Answer Record → (values : List ℤ) → Filling
+columns_read bytes (ok r n) values =
     cond (ltb n bytes) (filling (Refused (LeftOver n)) values) (cond (eqb (length values) (amount r)) (filling Columns (columns r)) (filling (Refused Amount) values))
-columnsRead bytes short values = filling (Refused (refusalOf Short)) values
-columnsRead bytes (bad k p) values = filling (Refused (refusalOf (Bad k p))) values
+columns_read bytes short values = filling (Refused (refusal_of Short)) values
+columns_read bytes (bad k p) values = filling (Refused (refusal_of (Bad k p))) values
 
 -- what is promised of the bytes s: r is answered, and the buffer that held `values` holds `after` then
 abbrev pub ReadColumns : (s : List ℕ) (values : List ℤ) → Filled → (after : List ℤ) → Type 0
-ReadColumns s values r after = filling r after ≡ columnsRead (length s) (run fullRecord s) values
+ReadColumns s values r after = filling r after ≡ columns_read (length s) (run full_record s) values

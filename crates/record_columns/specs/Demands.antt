@@ -13,7 +13,7 @@ use Rattle.record_reading.specs.declared.Verdict.TheVariants as verdict
 use Rattle.record_writing.specs.declared.Written.{Written}
 use Rattle.record_writing.specs.declared.Written.TheVariants as written
 use Rattle.demands.specs.Promises as promises
-use Rattle.demands.specs.Saying.{numbersOf}
+use Rattle.demands.specs.Saying.{numbers_of}
 use Rattle.record_columns.specs.Columns.{ReadColumns}
 use Rattle.record_columns.specs.declared.Filled.{Filled}
 use Rattle.record_columns.specs.declared.Filled.TheVariants.{Columns, Refused}
@@ -21,7 +21,7 @@ use Rattle.record_columns.specs.declared.Filled.TheVariants.{Columns, Refused}
 -- judge_whole said of the whole slice s that it is a record: its description, its count, and whether it has extended data
 pub record Good (s : List ℕ) (d : Description) (count : ℕ) (wanted : Bool) : Type 0 where
   pub judged : Judged
-  pub judges : promises.judgeWhole s judged
+  pub judges : promises.judge_whole s judged
   pub said : judged.verdict ≡ verdict.Record (length s) count wanted
   pub described : judged.description ≡ d
 
@@ -29,7 +29,7 @@ pub record Good (s : List ℕ) (d : Description) (count : ℕ) (wanted : Bool) :
 
 -- whatever judge_whole refuses is refused the same; of a record 13 is said exactly where the amount is not its count times its stored channels; and on each the buffer is as it was
 pub record InOrder (s : List ℕ) (values : List ℤ) (r : Filled) (after : List ℤ) : Type 0 where
-  pub refused : (j : Judged) (refusal : Refusal) → promises.judgeWhole s j → j.verdict ≡ verdict.Refused refusal → (r ≡ Refused refusal) × (after ≡ values)
+  pub refused : (j : Judged) (refusal : Refusal) → promises.judge_whole s j → j.verdict ≡ verdict.Refused refusal → (r ≡ Refused refusal) × (after ≡ values)
   pub other-amount : (d : Description) (count : ℕ) (wanted : Bool) → Good s d count wanted → (length values ≡ count * size (stored d) → ⊥) → (r ≡ Refused Amount) × (after ≡ values)
   pub same-amount : (d : Description) (count : ℕ) (wanted : Bool) → Good s d count wanted → length values ≡ count * size (stored d) → r ≡ Columns
 
@@ -44,7 +44,7 @@ HoldsTheSame =
     (s : Bor (List ℕ)) → Bytes s.now → (d : Description) (count : ℕ) (wanted : Bool) → Good s.now d count wanted
     → (points : ℕ → List Place) → ((index : ℕ) → index < count → promises.point s.now index (points index))
     → (values after : List ℤ) → ReadColumns s.now values Columns after
-    → (length after ≡ count * size (stored d)) × Same count (size (stored d)) (numbersOf points count 0) after
+    → (length after ≡ count * size (stored d)) × Same count (size (stored d)) (numbers_of points count 0) after
 
 -- ---- Reading and writing together
 
@@ -54,13 +54,13 @@ WritesBack =
     (s : Bor (List ℕ)) → Bytes s.now → (d : Description) (count : ℕ) (wanted : Bool) → Good s.now d count wanted
     → (extended : Bor (List ℕ)) → promises.extended s extended
     → (values after : List ℤ) → ReadColumns s.now values Columns after
-    → (out : List ℕ) → length s.now ≤ length out → (r : Written) (bytes : List ℕ) → promises.writeColumns d count after wanted extended.now out r bytes
+    → (out : List ℕ) → length s.now ≤ length out → (r : Written) (bytes : List ℕ) → promises.write_columns d count after wanted extended.now out r bytes
     → (r ≡ written.Record (length s.now)) × (bytes ≡ s.now ++ drop (length s.now) out)
 
 -- what write_columns wrote, read_columns fills in again, in as many numbers. A description always has sixteen channels, and what is lent as extended data are bytes.
 abbrev pub ReadsBack : Type 0
 ReadsBack =
     (d : Description) → length d.channels ≡ 16 → (count : ℕ) (values : List ℤ) (wanted : Bool) (extended : List ℕ) → Bytes extended
-    → (out : List ℕ) (n : ℕ) (bytes : List ℕ) → promises.writeColumns d count values wanted extended out (written.Record n) bytes
+    → (out : List ℕ) (n : ℕ) (bytes : List ℕ) → promises.write_columns d count values wanted extended out (written.Record n) bytes
     → (lent : List ℤ) → length lent ≡ length values → (r : Filled) (after : List ℤ) → ReadColumns (take n bytes) lent r after
     → (r ≡ Columns) × (after ≡ values)

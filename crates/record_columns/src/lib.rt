@@ -1,6 +1,6 @@
 // The sample points of a full record by column (request L9): all numbers of a stored channel, then those of the next, read into a lent buffer.
 ghost use Rattle.std.specs.Prelude.{◌≡◌, ◌+◌, ◌*◌, ◌≤◌, ◌<◌, length};
-ghost use Rattle.points.specs.Points.{sampleSize, width as pointWidth};
+ghost use Rattle.points.specs.Points.{sample_size, width as point_width};
 ghost use Rattle.orders.specs.Orders.{size};
 ghost use Rattle.orders.specs.Parts.{AllAt};
 ghost use Rattle.record_columns.specs.Columns.{ReadColumns};
@@ -14,7 +14,7 @@ use refusals::Refusal;
 // A channel's number in a sample point that was judged: so the byte of S is not asked again whether it is admitted.
 // `number_at` is handed the very bytes that it asks for: so the compiler sees that they are there.
 fn sample_at(bytes: &[u8], at: usize, channel: usize) -> i32
-    requires { at + sampleSize 2 channel ≤ length bytes.now }
+    requires { at + sample_size 2 channel ≤ length bytes.now }
     ensures { NumberAt bytes.now channel at result }
 {
     if channel == channels::S {
@@ -38,7 +38,7 @@ fn fill_channel(
     from: usize,
     step: usize,
 )
-    requires { (width ≤ 32) × (0 < step) × (step ≤ 16) × AllAt (λ at. at + sampleSize 2 channel ≤ length bytes.now) width count start × AllAt (λ i. i < length values.old) step count from }
+    requires { (width ≤ 32) × (0 < step) × (step ≤ 16) × AllAt (λ at. at + sample_size 2 channel ≤ length bytes.now) width count start × AllAt (λ i. i < length values.old) step count from }
     ensures { ChannelFilled bytes.now channel start width from step count values.old values.new }
 {
     let mut at = start;
@@ -61,7 +61,7 @@ fn fill(
     values: &mut [i32],
     order: Order,
 )
-    requires { (start + count * pointWidth 2 stored ≤ length bytes.now) × (length values.old ≡ count * size stored) }
+    requires { (start + count * point_width 2 stored ≤ length bytes.now) × (length values.old ≡ count * size stored) }
     ensures { PointsFilled bytes.now start stored count order values.new }
 {
     let width = points::width(Format::Full, stored);

@@ -8,7 +8,7 @@ use lib.Dec.{eqb}
 use lib.ListN.{length, get_or}
 use borrow.Author.Tests.{eq-eqb, ne_eqb}
 use Rattle.formats.specs.Binary.{bit}
-use Rattle.formats.specs.Reader.{done, ok, short, bad, readAt, bind, one, literal}
+use Rattle.formats.specs.Reader.{done, ok, short, bad, read_at, bind, one, literal}
 use Rattle.formats.specs.Compose.{at_done, at-short, at-pass, at-fail, at-bind-ok}
 use Rattle.formats.specs.Told.{at-bind-failed}
 use Rattle.formats.specs.declared.Failure.TheVariants.{Short}
@@ -39,39 +39,39 @@ module _ (s : List ℕ) (at : ℕ) where
   abbrev made : ℕ → ℕ → Opening
   made b count = record { announced = bit 8 b; count = count }
 
-  pub reserved-short : length s ≤ at → readAt opened s at ≡ short
+  pub reserved-short : length s ≤ at → read_at opened s at ≡ short
   unfolding opened literal bind
   reserved-short h = at-short _ _ s at h
 
-  pub reserved-bad : at < length s → (get_or s at 0 ≡ 0 → ⊥) → readAt opened s at ≡ bad 6 at
+  pub reserved-bad : at < length s → (get_or s at 0 ≡ 0 → ⊥) → read_at opened s at ≡ bad 6 at
   unfolding opened literal bind
   reserved-bad h e = at-fail _ _ s at h (ne_eqb (get_or s at 0) 0 e)
 
   module _ (h : at < length s) (e : get_or s at 0 ≡ 0) where
-    then-opening : readAt opened s at ≡ readAt (bind (one opening) (λ b. bind (number 3) (λ count. done (made b count)))) s (at + 1)
+    then-opening : read_at opened s at ≡ read_at (bind (one opening) (λ b. bind (number 3) (λ count. done (made b count)))) s (at + 1)
     unfolding opened literal one bind
     then-opening = at-pass _ _ s at h (eq-eqb (get_or s at 0) 0 e)
 
-    pub opening-short : length s ≤ at + 1 → readAt opened s at ≡ short
+    pub opening-short : length s ≤ at + 1 → read_at opened s at ≡ short
     unfolding one bind
     opening-short q = then-opening ∙ at-short _ _ s (at + 1) q
 
-    pub opening-refused : at + 1 < length s → opening.holds (get_or s (at + 1) 0) ≡ false → readAt opened s at ≡ bad 7 (at + 1)
+    pub opening-refused : at + 1 < length s → opening.holds (get_or s (at + 1) 0) ≡ false → read_at opened s at ≡ bad 7 (at + 1)
     unfolding one bind
     opening-refused q g = then-opening ∙ at-fail _ _ s (at + 1) q g
 
     module _ (q : at + 1 < length s) (g : opening.holds (get_or s (at + 1) 0) ≡ true) where
-      then-count : readAt opened s at ≡ readAt (bind (number 3) (λ count. done (made (get_or s (at + 1) 0) count))) s (at + 2)
+      then-count : read_at opened s at ≡ read_at (bind (number 3) (λ count. done (made (get_or s (at + 1) 0) count))) s (at + 2)
       unfolding one bind
       then-count =
           let z : at + 1 + 1 ≡ at + 2 = omega arith in
           then-opening ∙ rw z at (at-pass opening (λ b. bind (number 3) (λ count. done (made b count))) s (at + 1) q g)
 
-      pub count-short : length s - at < 5 → readAt opened s at ≡ short
+      pub count-short : length s - at < 5 → read_at opened s at ≡ short
       count-short r = then-count ∙ at-bind-failed (number 3) _ s (at + 2) Short (at-number-short 3 s (at + 2) (omega arith))
 
       pub count-ok : at + 5 ≤ length s
-          → readAt opened s at ≡ ok (made (get_or s (at + 1) 0) ((get_or s (at + 2) 0 * 256 + get_or s (at + 3) 0) * 256 + get_or s (at + 4) 0)) (at + 5)
+          → read_at opened s at ≡ ok (made (get_or s (at + 1) 0) ((get_or s (at + 2) 0 * 256 + get_or s (at + 3) 0) * 256 + get_or s (at + 4) 0)) (at + 5)
       count-ok r =
           let a : at + 2 + 1 ≡ at + 3 = omega arith in
           let b : at + 2 + 2 ≡ at + 4 = omega arith in

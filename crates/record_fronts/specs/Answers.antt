@@ -1,14 +1,14 @@
 -- Each public function has one answer: whatever meets its promise is the same.
 use Rattle.std.specs.Prelude.{◌≡◌, List, ℕ}
-use Rattle.formats.specs.Reader.{readAt}
+use Rattle.formats.specs.Reader.{read_at}
 use Rattle.formats.specs.OneAnswer.{OneAnswer, named}
 use Rattle.descriptions.specs.declared.Measured.{Measured}
 use Rattle.record_fronts.specs.Front.{front}
-use Rattle.record_fronts.specs.Fronted.{fronted, frontBehind}
+use Rattle.record_fronts.specs.Fronted.{fronted, front_behind}
 
 module _ (s : List ℕ) where
-  pub one-front-behind : (measured : Measured) → OneAnswer (λ r. r ≡ frontBehind s measured)
+  pub one-front-behind : (measured : Measured) → OneAnswer (λ r. r ≡ front_behind s measured)
   one-front-behind measured = named
 
-  pub one-front : (start : ℕ) → OneAnswer (λ r. r ≡ fronted (readAt front s start))
+  pub one-front : (start : ℕ) → OneAnswer (λ r. r ≡ fronted (read_at front s start))
   one-front start = named

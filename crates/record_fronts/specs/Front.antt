@@ -9,7 +9,7 @@ use Rattle.descriptions.specs.Description.{description}
 use Rattle.points.specs.Points.{point}
 use Rattle.channels.specs.Descriptors.{stored}
 use Rattle.channels.specs.declared.Format.TheVariants.{Full}
-use Rattle.records.specs.Record.{Record, opening, extension, fullRecord}
+use Rattle.records.specs.Record.{Record, opening, extension, full_record}
 use Rattle.identifications.specs.Identification.{identification}
 
 -- what stands before the points: the channels, whether extended data are announced, and the number of points
@@ -73,6 +73,6 @@ front-body : bind front body ≡ bind identification (λ u. bind (description Fu
 unfolding front
 front-body = bind_assoc identification _ body ∙ (λ i. bind identification (λ u. channelled-body i))
 
-pub in_two : fullRecord ≡ bind front body
-unfolding fullRecord body identification literal bind
+pub in_two : full_record ≡ bind front body
+unfolding full_record body identification literal bind
 in_two = sym (front-body ∙ (λ i. bind identification (λ u. bind (description Full) (λ d. opened-body d i))))

@@ -1,8 +1,8 @@
 // The front of a full record, all that stands before its points (7.3, 7.4.1, 7.4.2): read from any place of some bytes.
 ghost use Rattle.std.specs.Prelude.{◌≡◌, ◌+◌, ◌*◌};
-ghost use Rattle.formats.specs.Reader.{readAt};
+ghost use Rattle.formats.specs.Reader.{read_at};
 ghost use Rattle.record_fronts.specs.Front.{opened, front as frontReader};
-ghost use Rattle.record_fronts.specs.Fronted.{notOpened, openedAs, unfronted, fronted, frontBehind};
+ghost use Rattle.record_fronts.specs.Fronted.{not_opened, opened_as, unfronted, fronted, front_behind};
 
 use channels::Format;
 use descriptions::Measured;
@@ -17,7 +17,7 @@ struct Opened {
 }
 
 fn unopened(failure: Failure) -> Opened
-    ensures { result ≡ notOpened failure }
+    ensures { result ≡ not_opened failure }
 {
     Opened {
         outcome: Outcome::Failed(failure),
@@ -34,7 +34,7 @@ fn triple(high: u8, middle: u8, low: u8) -> u32
 
 // The header's reserved byte (7.3.5), the body's opening byte (7.4.1) and the count of points (7.4.2).
 fn opened_at(s: &[u8], at: usize) -> Opened
-    ensures { result ≡ openedAs (readAt opened s.now at) }
+    ensures { result ≡ opened_as (read_at opened s.now at) }
 {
     if s.len() <= at {
         return unopened(Failure::Short);
@@ -94,7 +94,7 @@ fn no_front(outcome: Outcome) -> Fronted
 
 // The front behind channels that were read, or only measured.
 pub fn front_behind(bytes: &[u8], measured: Measured) -> Fronted
-    ensures { result ≡ frontBehind bytes.now measured }
+    ensures { result ≡ front_behind bytes.now measured }
 {
     let outcome = measured.outcome;
     let Outcome::Done(at) = outcome else {
@@ -121,7 +121,7 @@ pub fn front_behind(bytes: &[u8], measured: Measured) -> Fronted
 
 // The front of the record that stands from a place on. Of its channels it is enough to know which are included and which stored.
 pub fn front_at(bytes: &[u8], start: usize) -> Fronted
-    ensures { result ≡ fronted (readAt frontReader bytes.now start) }
+    ensures { result ≡ fronted (read_at frontReader bytes.now start) }
 {
     let identified = identifications::end(bytes, start);
     let Outcome::Done(at) = identified else {

@@ -8,7 +8,7 @@ use Prim.Native.Nat.{ℕ, ◌+◌, ◌-◌, ◌*◌, ◌≤◌, ◌<◌}
 use native.Mathlib.Decide.{dec_lt}
 use native.Mathlib.Omega.{arith}
 use lib.ListN.{length, get_or}
-use Rattle.formats.specs.Reader.{ok, free, map, readAt}
+use Rattle.formats.specs.Reader.{ok, free, map, read_at}
 use Rattle.formats.specs.Compose.{at_done, at-free, at-free-short}
 use Rattle.formats.specs.Number.{number, at-number, at-number-short, value-two}
 use Rattle.formats.specs.Jump.{Jumps, ends, ends_there, ends-short}
@@ -27,15 +27,15 @@ free-jumps n s at h =
     (λ q. ap told (at-free n s at (omega arith)) ∙ sym (ends_there s at n (omega arith)))
 
 module _ (s : List ℕ) (at : ℕ) (announced : Bool) where
-  pub no-extension : announced ≡ false → told (readAt (extension announced) s at) ≡ Done at
+  pub no-extension : announced ≡ false → told (read_at (extension announced) s at) ≡ Done at
   unfolding extension told
   no-extension e = rw e (ap told (at_done _ s at))
 
-  pub extension-short : announced ≡ true → length s - at < 2 → told (readAt (extension announced) s at) ≡ Failed Short
+  pub extension-short : announced ≡ true → length s - at < 2 → told (read_at (extension announced) s at) ≡ Failed Short
   unfolding extension told
   extension-short e h = rw e (ap told (at-bind-failed (number 2) _ s at Short (at-number-short 2 s at h)))
 
-  pub extension-jump : announced ≡ true → at + 2 ≤ length s → told (readAt (extension announced) s at) ≡ ends s (at + 2) (get_or s at 0 * 256 + get_or s (at + 1) 0)
+  pub extension-jump : announced ≡ true → at + 2 ≤ length s → told (read_at (extension announced) s at) ≡ ends s (at + 2) (get_or s at 0 * 256 + get_or s (at + 1) 0)
   unfolding extension map
   extension-jump e h =
       rw e

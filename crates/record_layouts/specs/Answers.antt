@@ -2,11 +2,11 @@
 use Rattle.std.specs.Prelude.{◌≡◌, List, ℕ}
 use Rattle.formats.specs.OneAnswer.{OneAnswer, named}
 use Rattle.record_fronts.specs.declared.Fronted.{Fronted}
-use Rattle.record_layouts.specs.Layout.{layoutBehind, layoutAt}
+use Rattle.record_layouts.specs.Layout.{layout_behind, layout_at}
 
 module _ (s : List ℕ) where
-  pub one-layout-behind : (heading : Fronted) → OneAnswer (λ r. r ≡ layoutBehind s heading)
+  pub one-layout-behind : (heading : Fronted) → OneAnswer (λ r. r ≡ layout_behind s heading)
   one-layout-behind heading = named
 
-  pub one-layout : (start : ℕ) → OneAnswer (λ r. r ≡ layoutAt s start)
+  pub one-layout : (start : ℕ) → OneAnswer (λ r. r ≡ layout_at s start)
   one-layout start = named

@@ -1,6 +1,6 @@
 -- Where the parts of a record lie, as code finds them behind its front.
 use Rattle.std.specs.Prelude.{false, List, ℕ}
-use Rattle.formats.specs.Reader.{readAt, times}
+use Rattle.formats.specs.Reader.{read_at, times}
 use Rattle.formats.specs.Told.{told}
 use Rattle.formats.specs.declared.Outcome.{Outcome}
 use Rattle.formats.specs.declared.Outcome.TheVariants.{Done, Failed}
@@ -21,13 +21,13 @@ behind (Done n) next = next n
 behind (Failed f) next = no_layout (Failed f)
 
 -- the points behind a front, and the extended data behind them
-unfoldable pub layoutBehind : List ℕ → Fronted → Layout
-layoutBehind s h =
+unfoldable pub layout_behind : List ℕ → Fronted → Layout
+layout_behind s h =
     behind h.outcome (λ points.
-    behind (told (readAt (times h.front.count (point 2 h.front.stored)) s points)) (λ extension.
-    behind (told (readAt (meant.extension h.front.announced) s extension)) (λ end.
+    behind (told (read_at (times h.front.count (point 2 h.front.stored)) s points)) (λ extension.
+    behind (told (read_at (meant.extension h.front.announced) s extension)) (λ end.
     record { outcome = Done end; announced = h.front.announced; count = h.front.count; extension = extension })))
 
 -- the record that stands from a place on
-unfoldable pub layoutAt : List ℕ → (start : ℕ) → Layout
-layoutAt s start = layoutBehind s (fronted (readAt front s start))
+unfoldable pub layout_at : List ℕ → (start : ℕ) → Layout
+layout_at s start = layout_behind s (fronted (read_at front s start))

@@ -6,7 +6,7 @@ use Rattle.std.proofs.Math.Logic.{by_cases}
 use Rattle.std.proofs.Math.Option.{Option, none, some}
 use Rattle.std.proofs.Math.Decide.{dec_lt}
 use Rattle.formats.specs.Bytes.{impossible}
-use Rattle.formats.specs.Reader.{Answer, ok, short, bad, done, and_then, readAt, run, bind, times, free}
+use Rattle.formats.specs.Reader.{Answer, ok, short, bad, done, and_then, read_at, run, bind, times, free}
 use Rattle.formats.specs.Compose.{at-start, at-bind, at_done, at-within, at-bind-ok, at-free, at-free-short}
 use Rattle.formats.specs.declared.Failure.TheVariants.{Short}
 use Rattle.formats.specs.Number.{number, value, at-number, at-number-short}
@@ -16,10 +16,10 @@ use Rattle.formats.specs.declared.Failure.{Failure}
 use Rattle.formats.specs.declared.Outcome.TheVariants.{Done, Failed}
 use Rattle.points.specs.Points.{point}
 use Rattle.channels.specs.Descriptors.{included, stored}
-use Rattle.records.specs.Record.{Record, extension, fullRecord, present, extendedBytes}
+use Rattle.records.specs.Record.{Record, extension, full_record, present, extended_bytes}
 use Rattle.record_fronts.specs.Front.{Heading, front, body, in_two}
-use Rattle.record_fronts.specs.Fronted.{frontOf, frontIn, fronted}
-use Rattle.record_layouts.specs.Layout.{no_layout, behind, layoutBehind, layoutAt}
+use Rattle.record_fronts.specs.Fronted.{front_of, front_in, fronted}
+use Rattle.record_layouts.specs.Layout.{no_layout, behind, layout_behind, layout_at}
 use Rattle.record_fronts.specs.declared.Front.{Front}
 use Rattle.record_layouts.specs.declared.Layout.{Layout}
 
@@ -28,12 +28,12 @@ use Rattle.record_layouts.specs.declared.Layout.{Layout}
 -- extended data that are present end where their bytes do, behind a length of two bytes; absent ones have no bytes
 pub record Ends (s : List ℕ) (announced : Bool) (at : ℕ) (extra : Option (List ℕ)) (end : ℕ) : Type 0 where
   pub presence : present extra ≡ announced
-  pub start : announced ≡ true → at + 2 + length (extendedBytes extra) ≡ end
-  pub empty : announced ≡ false → (at ≡ end) × (extendedBytes extra ≡ [])
+  pub start : announced ≡ true → at + 2 + length (extended_bytes extra) ≡ end
+  pub empty : announced ≡ false → (at ≡ end) × (extended_bytes extra ≡ [])
 
 counted : (s : List ℕ) (at n : ℕ) {extra : Option (List ℕ)} {end : ℕ} → at + 2 ≤ length s
-    → readAt (bind (free n) (λ bytes. done (some bytes))) s (at + 2) ≡ ok extra end → Ends s true at extra end
-unfolding present extendedBytes
+    → read_at (bind (free n) (λ bytes. done (some bytes))) s (at + 2) ≡ ok extra end → Ends s true at extra end
+unfolding present extended_bytes
 counted s at n {extra} {end} h e =
     by_cases
     (dec_lt (length s) (at + 2 + n))
@@ -46,15 +46,15 @@ counted s at n {extra} {end} h e =
     let l : length (take n (drop (at + 2) s)) ≡ n = length-take-le n (drop (at + 2) s) (simp length-drop (omega arith)) in
     rw (← x) (record { presence = refl; start = λ r. rw l y; empty = λ r. impossible (cc) }))
 
-pub extension-ends : (s : List ℕ) (announced : Bool) (at : ℕ) {extra : Option (List ℕ)} {end : ℕ} → at ≤ length s → readAt (extension announced) s at ≡ ok extra end → Ends s announced at extra end
-unfolding extension present extendedBytes
+pub extension-ends : (s : List ℕ) (announced : Bool) (at : ℕ) {extra : Option (List ℕ)} {end : ℕ} → at ≤ length s → read_at (extension announced) s at ≡ ok extra end → Ends s announced at extra end
+unfolding extension present extended_bytes
 extension-ends s true at {extra} {end} h e =
     by_cases
     (dec_lt (length s) (at + 2))
     (λ q. impossible (cc (at-bind-failed (number 2) _ s at Short (at-number-short 2 s at (omega arith)))))
     (λ q. counted s at (value 2 (drop at s)) (omega arith) (sym (at-bind-ok (number 2) _ s at (at-number 2 s at (omega arith))) ∙ e))
 extension-ends s false at {extra} {end} h e =
-    let z : readAt {A = Option (List ℕ)} (done none) s at ≡ ok none at = at_done none s at in
+    let z : read_at {A = Option (List ℕ)} (done none) s at ≡ ok none at = at_done none s at in
     let x : none ≡ extra = cc in
     let y : at ≡ end = cc in
     rw (← x) (record { presence = refl; start = λ q. impossible (cc); empty = λ q. (y, refl) })
@@ -69,7 +69,7 @@ pub record Lying (s : List ℕ) (h : Front) (l : Layout) (r : Record) (end : ℕ
   pub stores : h.stored ≡ stored r.description
   pub count : length r.points ≡ l.count
   pub within : h.points ≤ length s
-  pub points : readAt (times l.count (point 2 (stored r.description))) s h.points ≡ ok r.points l.extension
+  pub points : read_at (times l.count (point 2 (stored r.description))) s h.points ≡ ok r.points l.extension
   pub extension : Ends s l.announced l.extension r.extended end
   pub extended-within : (l.extension ≤ end) × (end ≤ length s)
 
@@ -85,9 +85,9 @@ module _ (s : List ℕ) where
     made points extended = record { description = f.description; points = points; extended = extended }
 
     -- behind the points
-    module _ (points : List (List ℤ)) (next : ℕ) (e : readAt (times f.count (point 2 (stored f.description))) s at ≡ ok points next) where
-      by-extension : (x : Answer (Option (List ℕ))) → readAt (extension f.announced) s next ≡ x
-          → Agrees s (frontOf f at) (and_then x (λ extra end. readAt (done (made points extra)) s end))
+    module _ (points : List (List ℤ)) (next : ℕ) (e : read_at (times f.count (point 2 (stored f.description))) s at ≡ ok points next) where
+      by-extension : (x : Answer (Option (List ℕ))) → read_at (extension f.announced) s next ≡ x
+          → Agrees s (front_of f at) (and_then x (λ extra end. read_at (done (made points extra)) s end))
           (behind (told x) (λ end. record { outcome = Done end; announced = f.announced; count = f.count; extension = next }))
       unfolding Agrees and_then behind told
       by-extension (ok extra end) g =
@@ -109,40 +109,40 @@ module _ (s : List ℕ) where
       by-extension (bad k p) g = refl
 
     -- behind the front
-    by-points : (x : Answer (List (List ℤ))) → readAt (times f.count (point 2 (stored f.description))) s at ≡ x
-        → Agrees s (frontOf f at) (and_then x (λ points next. readAt (bind (extension f.announced) (λ extra. done (made points extra))) s next))
-        (behind (told x) (λ next. behind (told (readAt (extension f.announced) s next)) (λ end. record { outcome = Done end; announced = f.announced; count = f.count; extension = next })))
+    by-points : (x : Answer (List (List ℤ))) → read_at (times f.count (point 2 (stored f.description))) s at ≡ x
+        → Agrees s (front_of f at) (and_then x (λ points next. read_at (bind (extension f.announced) (λ extra. done (made points extra))) s next))
+        (behind (told x) (λ next. behind (told (read_at (extension f.announced) s next)) (λ end. record { outcome = Done end; announced = f.announced; count = f.count; extension = next })))
     unfolding Agrees and_then behind told
     by-points (ok points next) e =
         rw (at-bind (λ extra. done (made points extra)) (extension f.announced) s next)
-        (by-extension points next e (readAt (extension f.announced) s next) refl)
+        (by-extension points next e (read_at (extension f.announced) s next) refl)
     by-points short e = refl
     by-points (bad k p) e = refl
 
   module _ (start : ℕ) (inside : start ≤ length s) where
-    by_front : (x : Answer Heading) → readAt front s start ≡ x → Agrees s (frontIn x) (and_then x (λ f at. readAt (body f) s at)) (layoutBehind s (fronted x))
-    unfolding Agrees and_then layoutBehind behind frontIn told body
+    by_front : (x : Answer Heading) → read_at front s start ≡ x → Agrees s (front_in x) (and_then x (λ f at. read_at (body f) s at)) (layout_behind s (fronted x))
+    unfolding Agrees and_then layout_behind behind front_in told body
     by_front (ok f at) e =
         let w = (at-within front s start e inside).1 in
         rw (at-bind (λ points. bind (extension f.announced) (λ extra. done (made f at w points extra))) (times f.count (point 2 (stored f.description))) s at)
-        (by-points f at w (readAt (times f.count (point 2 (stored f.description))) s at) refl)
+        (by-points f at w (read_at (times f.count (point 2 (stored f.description))) s at) refl)
     by_front short e = refl
     by_front (bad k p) e = refl
 
-    agrees : Agrees s (frontIn (readAt front s start)) (readAt fullRecord s start) (layoutAt s start)
-    unfolding layoutAt
-    agrees = rw (ap (λ r. readAt r s start) in_two ∙ at-bind body front s start) (by_front (readAt front s start) refl)
+    agrees : Agrees s (front_in (read_at front s start)) (read_at full_record s start) (layout_at s start)
+    unfolding layout_at
+    agrees = rw (ap (λ r. read_at r s start) in_two ∙ at-bind body front s start) (by_front (read_at front s start) refl)
 
 -- ---- Reading, by how the layout ended
 
-module _ (s : List ℕ) (start : ℕ) (inside : start ≤ length s) (l : Layout) (e : l ≡ layoutAt s start) where
+module _ (s : List ℕ) (start : ℕ) (inside : start ≤ length s) (l : Layout) (e : l ≡ layout_at s start) where
   abbrev heading : Front
-  heading = frontIn (readAt front s start)
+  heading = front_in (read_at front s start)
 
-  of-layout : (x : Answer Record) → readAt fullRecord s start ≡ x → Agrees s heading x l
+  of-layout : (x : Answer Record) → read_at full_record s start ≡ x → Agrees s heading x l
   of-layout x q = rw (← q, e) (agrees s start inside)
 
-  whole_of : (x : Answer Record) → readAt fullRecord s start ≡ x → Agrees s heading x l → {end : ℕ} → l.outcome ≡ Done end → (r : Record) × (readAt fullRecord s start ≡ ok r end) × Lying s heading l r end
+  whole_of : (x : Answer Record) → read_at full_record s start ≡ x → Agrees s heading x l → {end : ℕ} → l.outcome ≡ Done end → (r : Record) × (read_at full_record s start ≡ ok r end) × Lying s heading l r end
   unfolding Agrees told
   whole_of (ok r n) q f {end} o =
       let g = f.outcome in
@@ -152,8 +152,8 @@ module _ (s : List ℕ) (start : ℕ) (inside : start ≤ length s) (l : Layout)
   whole_of (bad k p) q f o = impossible (cc (ap (λ y. y.outcome) f))
 
   -- a layout that ended well is that of a record
-  pub record-lies : {end : ℕ} → l.outcome ≡ Done end → (r : Record) × (readAt fullRecord s start ≡ ok r end) × Lying s heading l r end
-  record-lies o = whole_of (readAt fullRecord s start) refl (of-layout (readAt fullRecord s start) refl) o
+  pub record-lies : {end : ℕ} → l.outcome ≡ Done end → (r : Record) × (read_at full_record s start ≡ ok r end) × Lying s heading l r end
+  record-lies o = whole_of (read_at full_record s start) refl (of-layout (read_at full_record s start) refl) o
 
   ends_as : (x : Answer Record) → Agrees s heading x l → l.outcome ≡ told x
   unfolding Agrees told
@@ -162,8 +162,8 @@ module _ (s : List ℕ) (start : ℕ) (inside : start ≤ length s) (l : Layout)
   ends_as (bad k p) f = ap (λ y. y.outcome) f
 
   -- and one that failed ended as reading did
-  pub failed-lies : {f : Failure} → l.outcome ≡ Failed f → readAt fullRecord s start ≡ failed f
-  failed-lies o = told-failed (readAt fullRecord s start) (sym o ∙ ends_as (readAt fullRecord s start) (of-layout (readAt fullRecord s start) refl))
+  pub failed-lies : {f : Failure} → l.outcome ≡ Failed f → read_at full_record s start ≡ failed f
+  failed-lies o = told-failed (read_at full_record s start) (sym o ∙ ends_as (read_at full_record s start) (of-layout (read_at full_record s start) refl))
 
   nothing-of : (x : Answer Record) → Agrees s heading x l → {f : Failure} → l.outcome ≡ Failed f → l.count ≡ 0
   unfolding Agrees told
@@ -173,21 +173,21 @@ module _ (s : List ℕ) (start : ℕ) (inside : start ≤ length s) (l : Layout)
 
   -- with no points
   pub failed-count : {f : Failure} → l.outcome ≡ Failed f → l.count ≡ 0
-  failed-count o = nothing-of (readAt fullRecord s start) (of-layout (readAt fullRecord s start) refl) o
+  failed-count o = nothing-of (read_at full_record s start) (of-layout (read_at full_record s start) refl) o
 
 -- ---- The record that some bytes begin with
 
-module _ (s : List ℕ) (l : Layout) (e : l ≡ layoutAt s 0) where
-  pub record-read : {end : ℕ} → l.outcome ≡ Done end → (r : Record) × (run fullRecord s ≡ ok r end) × Lying s (frontIn (readAt front s 0)) l r end
-  record-read o = let x = record-lies s 0 (omega arith) l e o in (x.0, sym (at-start fullRecord s) ∙ x.1, x.2)
+module _ (s : List ℕ) (l : Layout) (e : l ≡ layout_at s 0) where
+  pub record-read : {end : ℕ} → l.outcome ≡ Done end → (r : Record) × (run full_record s ≡ ok r end) × Lying s (front_in (read_at front s 0)) l r end
+  record-read o = let x = record-lies s 0 (omega arith) l e o in (x.0, sym (at-start full_record s) ∙ x.1, x.2)
 
   -- and of a record that was read it is the layout
-  pub read-lies : {r : Record} {end : ℕ} → run fullRecord s ≡ ok r end → Lying s (frontIn (readAt front s 0)) l r end
+  pub read-lies : {r : Record} {end : ℕ} → run full_record s ≡ ok r end → Lying s (front_in (read_at front s 0)) l r end
   unfolding Agrees
-  read-lies {r} {end} q = of-layout s 0 (omega arith) l e (ok r end) (at-start fullRecord s ∙ q)
+  read-lies {r} {end} q = of-layout s 0 (omega arith) l e (ok r end) (at-start full_record s ∙ q)
 
-  pub failed-read : {f : Failure} → l.outcome ≡ Failed f → run fullRecord s ≡ failed f
-  failed-read o = sym (at-start fullRecord s) ∙ failed-lies s 0 (omega arith) l e o
+  pub failed-read : {f : Failure} → l.outcome ≡ Failed f → run full_record s ≡ failed f
+  failed-read o = sym (at-start full_record s) ∙ failed-lies s 0 (omega arith) l e o
 
   pub none-counted : {f : Failure} → l.outcome ≡ Failed f → l.count ≡ 0
   none-counted o = failed-count s 0 (omega arith) l e o

@@ -1,10 +1,10 @@
 // How a full record lies (7.4): its points behind its front, and its extended data behind them.
 ghost use Rattle.std.specs.Prelude.{◌≡◌, ◌≤◌, length};
-ghost use Rattle.formats.specs.Reader.{readAt};
+ghost use Rattle.formats.specs.Reader.{read_at};
 ghost use Rattle.formats.specs.Told.{told};
 ghost use Rattle.formats.specs.Jump.{ends};
 ghost use Rattle.records.specs.Record.{extension};
-ghost use Rattle.record_layouts.specs.Layout.{no_layout, layoutBehind, layoutAt};
+ghost use Rattle.record_layouts.specs.Layout.{no_layout, layout_behind, layout_at};
 
 use channels::Format;
 use formats::{Failure, Outcome};
@@ -23,7 +23,7 @@ fn jump(s: &[u8], start: usize, size: usize) -> Outcome
 
 // The extended data, where the opening byte announced them: a length of two bytes, and that many bytes (7.4.3, as decided).
 fn extension_end(s: &[u8], start: usize, announced: bool) -> Outcome
-    ensures { result ≡ told (readAt (extension announced) s.now start) }
+    ensures { result ≡ told (read_at (extension announced) s.now start) }
 {
     if !announced {
         return Outcome::Done(start);
@@ -61,7 +61,7 @@ fn no_layout(outcome: Outcome) -> Layout
 
 // The points behind a front, and the extended data behind them.
 pub fn layout_behind(bytes: &[u8], heading: Fronted) -> Layout
-    ensures { result ≡ layoutBehind bytes.now heading }
+    ensures { result ≡ layout_behind bytes.now heading }
 {
     let headed = heading.outcome;
     let Outcome::Done(start) = headed else {
@@ -87,7 +87,7 @@ pub fn layout_behind(bytes: &[u8], heading: Fronted) -> Layout
 
 // The record that stands from a place on, part by part.
 pub fn layout_at(bytes: &[u8], start: usize) -> Layout
-    ensures { result ≡ layoutAt bytes.now start }
+    ensures { result ≡ layout_at bytes.now start }
 {
     let heading = record_fronts::front_at(bytes, start);
     layout_behind(bytes, heading)

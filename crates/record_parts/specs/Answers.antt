@@ -3,14 +3,14 @@ use Rattle.std.specs.Prelude.{List, ℕ, length}
 use Rattle.std.specs.Borrow.{Bor}
 use Rattle.formats.specs.Reader.{run}
 use Rattle.formats.specs.Part.{Part, SamePart, one-part}
-use Rattle.records.specs.Record.{fullRecord}
-use Rattle.record_parts.specs.Parts.{extendedPlace, extendedSize, restPlace, restSize}
+use Rattle.records.specs.Record.{full_record}
+use Rattle.record_parts.specs.Parts.{extended_place, extended_size, rest_place, rest_size}
 
 module _ (s r q : Bor (List ℕ)) where
-  pub one-extended : Part s r (extendedPlace (run fullRecord s.now)) (extendedSize (run fullRecord s.now))
-      → Part s q (extendedPlace (run fullRecord s.now)) (extendedSize (run fullRecord s.now)) → SamePart r q
+  pub one-extended : Part s r (extended_place (run full_record s.now)) (extended_size (run full_record s.now))
+      → Part s q (extended_place (run full_record s.now)) (extended_size (run full_record s.now)) → SamePart r q
   one-extended = one-part s r q _ _
 
-  pub one-rest : Part s r (restPlace (run fullRecord s.now)) (restSize (length s.now) (run fullRecord s.now))
-      → Part s q (restPlace (run fullRecord s.now)) (restSize (length s.now) (run fullRecord s.now)) → SamePart r q
+  pub one-rest : Part s r (rest_place (run full_record s.now)) (rest_size (length s.now) (run full_record s.now))
+      → Part s q (rest_place (run full_record s.now)) (rest_size (length s.now) (run full_record s.now)) → SamePart r q
   one-rest = one-part s r q _ _

@@ -2,7 +2,7 @@
 use Rattle.std.specs.Prelude.{cond, List, [], ℕ, ltb, length, get_or}
 use Rattle.formats.specs.Reader.{Answer, ok, short, bad}
 use Rattle.formats.specs.declared.Failure.TheVariants.{Short, Bad}
-use Rattle.refusals.specs.Table.{refusalOf}
+use Rattle.refusals.specs.Table.{refusal_of}
 use Rattle.refusals.specs.declared.Refusal.TheVariants.{NoPoint}
 use Rattle.channels.specs.declared.Place.{Place}
 use Rattle.point_places.specs.Places.{places_of, nowhere}
@@ -12,13 +12,13 @@ use Rattle.record_points.specs.declared.Pointed.{Pointed}
 use Rattle.record_points.specs.declared.Pointed.TheVariants as pointed
 
 -- whether there is a point of this index: the front is judged first
-unfoldable pub pointedAt : (index : ℕ) → Answer Record → Pointed
-pointedAt index (ok r n) = cond (ltb index (length r.points)) pointed.Point (pointed.Refused NoPoint)
-pointedAt index short = pointed.Refused (refusalOf Short)
-pointedAt index (bad k p) = pointed.Refused (refusalOf (Bad k p))
+unfoldable pub pointed_at : (index : ℕ) → Answer Record → Pointed
+pointed_at index (ok r n) = cond (ltb index (length r.points)) pointed.Point (pointed.Refused NoPoint)
+pointed_at index short = pointed.Refused (refusal_of Short)
+pointed_at index (bad k p) = pointed.Refused (refusal_of (Bad k p))
 
 -- its sixteen places, all absent where there is no such point
-unfoldable pub placesIn : (index : ℕ) → Answer Record → List Place
-placesIn index (ok r n) = cond (ltb index (length r.points)) (places_of (included r.description) (stored r.description) (get_or r.points index [])) nowhere
-placesIn index short = nowhere
-placesIn index (bad k p) = nowhere
+unfoldable pub places_in : (index : ℕ) → Answer Record → List Place
+places_in index (ok r n) = cond (ltb index (length r.points)) (places_of (included r.description) (stored r.description) (get_or r.points index [])) nowhere
+places_in index short = nowhere
+places_in index (bad k p) = nowhere

@@ -1,8 +1,8 @@
 // One sample point of a full record: whether there is one of some index, and its sixteen places.
 ghost use Rattle.std.specs.Prelude.{◌≡◌};
 ghost use Rattle.formats.specs.Reader.{run};
-ghost use Rattle.records.specs.Record.{fullRecord};
-ghost use Rattle.record_points.specs.Pointing.{pointedAt, placesIn};
+ghost use Rattle.records.specs.Record.{full_record};
+ghost use Rattle.record_points.specs.Pointing.{pointed_at, places_in};
 
 use channels::{Format, Place};
 use formats::Outcome;
@@ -17,7 +17,7 @@ pub enum Pointed {
 
 // The front is judged first; bytes behind the record are allowed.
 pub fn judge_point(bytes: &[u8], index: usize) -> Pointed
-    ensures { result ≡ pointedAt index (run fullRecord bytes.now) }
+    ensures { result ≡ pointed_at index (run full_record bytes.now) }
 {
     let layout = record_layouts::layout_at(bytes, 0);
     let outcome = layout.outcome;
@@ -34,7 +34,7 @@ pub fn judge_point(bytes: &[u8], index: usize) -> Pointed
 // One sample point as sixteen places, all absent where there is no such point: it is then read by the flags of no channel.
 // The points have one width, so each has its share of their bytes.
 pub fn point(bytes: &[u8], index: usize) -> [Place; 16]
-    ensures { result ≡ placesIn index (run fullRecord bytes.now) }
+    ensures { result ≡ places_in index (run full_record bytes.now) }
 {
     let heading = record_fronts::front_at(bytes, 0);
     let front = heading.front;

@@ -9,13 +9,13 @@ use Rattle.formats.specs.Reader.{Answer, ok, short, bad}
 use Rattle.refusals.specs.declared.Refusal.{Refusal}
 use Rattle.refusals.specs.declared.Refusal.TheVariants.{LeftOver}
 use Rattle.records.specs.Record.{Record}
-use Rattle.record_reading.specs.Verdict.{verdictFrom, judged, unjudged, judgedWhole}
+use Rattle.record_reading.specs.Verdict.{verdict_from, judged, unjudged, judged_whole}
 use Rattle.record_reading.specs.declared.Judged.{Judged}
 use Rattle.record_reading.specs.declared.Verdict.TheVariants as verdict
 
 pub left_over : (x : Answer Record) (r : Judged) (size : ℕ) → r ≡ judged x → {n k : ℕ} {t : Bool} → r.verdict ≡ verdict.Record n k t → n < size
-    → unjudged (verdict.Refused (LeftOver n)) ≡ judgedWhole size x
-unfolding verdictFrom judgedWhole
+    → unjudged (verdict.Refused (LeftOver n)) ≡ judged_whole size x
+unfolding verdict_from judged_whole
 left_over (ok v m) r size e {n} g h =
     let q = ap (λ y. y.verdict) e in
     let z : n ≡ m - 0 = cc in
@@ -24,8 +24,8 @@ left_over (ok v m) r size e {n} g h =
 left_over short r size e g h = impossible (cc (ap (λ y. y.verdict) e))
 left_over (bad j p) r size e g h = impossible (cc (ap (λ y. y.verdict) e))
 
-pub all_of : (x : Answer Record) (r : Judged) (size : ℕ) → r ≡ judged x → {n k : ℕ} {t : Bool} → r.verdict ≡ verdict.Record n k t → size ≤ n → r ≡ judgedWhole size x
-unfolding verdictFrom judgedWhole
+pub all_of : (x : Answer Record) (r : Judged) (size : ℕ) → r ≡ judged x → {n k : ℕ} {t : Bool} → r.verdict ≡ verdict.Record n k t → size ≤ n → r ≡ judged_whole size x
+unfolding verdict_from judged_whole
 all_of (ok v m) r size e {n} g h =
     let q = ap (λ y. y.verdict) e in
     let z : n ≡ m - 0 = cc in
@@ -35,8 +35,8 @@ all_of short r size e g h = e
 all_of (bad j p) r size e g h = e
 
 -- what is not a record stays as it was judged
-pub stays-refused : (x : Answer Record) (r : Judged) (size : ℕ) → r ≡ judged x → {f : Refusal} → r.verdict ≡ verdict.Refused f → r ≡ judgedWhole size x
-unfolding verdictFrom judgedWhole
+pub stays-refused : (x : Answer Record) (r : Judged) (size : ℕ) → r ≡ judged x → {f : Refusal} → r.verdict ≡ verdict.Refused f → r ≡ judged_whole size x
+unfolding verdict_from judged_whole
 stays-refused (ok v m) r size e g = impossible (cc (ap (λ y. y.verdict) e))
 stays-refused short r size e g = e
 stays-refused (bad j p) r size e g = e

@@ -2,7 +2,7 @@
 use Rattle.std.specs.Prelude.{cond, ℕ, ◌-◌, ltb, length}
 use Rattle.formats.specs.Reader.{Answer, ok, short, bad}
 use Rattle.formats.specs.declared.Failure.TheVariants.{Short, Bad}
-use Rattle.refusals.specs.Table.{refusalOf}
+use Rattle.refusals.specs.Table.{refusal_of}
 use Rattle.refusals.specs.declared.Refusal.TheVariants.{LeftOver}
 use Rattle.channels.specs.declared.Description.{Description}
 use Rattle.channels.specs.declared.Format.TheVariants.{Full}
@@ -15,27 +15,27 @@ use Rattle.record_reading.specs.declared.Judged.{Judged}
 -- ---- Judging
 
 -- what was read from a place on: a record with its length, its count of points and whether extended data are present; or the refusal
-unfoldable pub verdictFrom : (start : ℕ) → Answer Record → Verdict
-verdictFrom start (ok r n) = verdict.Record (n - start) (length r.points) (present r.extended)
-verdictFrom start short = verdict.Refused (refusalOf Short)
-verdictFrom start (bad k p) = verdict.Refused (refusalOf (Bad k p))
+unfoldable pub verdict_from : (start : ℕ) → Answer Record → Verdict
+verdict_from start (ok r n) = verdict.Record (n - start) (length r.points) (present r.extended)
+verdict_from start short = verdict.Refused (refusal_of Short)
+verdict_from start (bad k p) = verdict.Refused (refusal_of (Bad k p))
 
 -- a record's description, which says nothing of any channel where there is no record
-unfoldable pub descriptionIn : Answer Record → Description
-descriptionIn (ok r n) = r.description
-descriptionIn short = nothing Full
-descriptionIn (bad k p) = nothing Full
+unfoldable pub description_in : Answer Record → Description
+description_in (ok r n) = r.description
+description_in short = nothing Full
+description_in (bad k p) = nothing Full
 
 -- the front of some bytes
 abbrev pub judged : Answer Record → Judged
-judged x = record { verdict = verdictFrom 0 x; description = descriptionIn x }
+judged x = record { verdict = verdict_from 0 x; description = description_in x }
 
 -- a verdict, where there is no record
 abbrev pub unjudged : Verdict → Judged
 unjudged v = record { verdict = v; description = nothing Full }
 
 -- a whole slice of `size` bytes: the same, and 9 at the place of the first byte left over
-unfoldable pub judgedWhole : (size : ℕ) → Answer Record → Judged
-judgedWhole size (ok r n) = cond (ltb n size) (unjudged (verdict.Refused (LeftOver n))) (judged (ok r n))
-judgedWhole size short = judged short
-judgedWhole size (bad k p) = judged (bad k p)
+unfoldable pub judged_whole : (size : ℕ) → Answer Record → Judged
+judged_whole size (ok r n) = cond (ltb n size) (unjudged (verdict.Refused (LeftOver n))) (judged (ok r n))
+judged_whole size short = judged short
+judged_whole size (bad k p) = judged (bad k p)

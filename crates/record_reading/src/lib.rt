@@ -1,12 +1,12 @@
 // Bytes judged as full records of ISO/IEC 19794-7:2007 (clause 7).
 ghost use Rattle.std.specs.Prelude.{◌≡◌, List, ℕ, ◌≤◌, length};
-ghost use Rattle.formats.specs.Reader.{readAt, run};
+ghost use Rattle.formats.specs.Reader.{read_at, run};
 ghost use Rattle.formats.specs.Told.{told};
 ghost use Rattle.formats.specs.declared.Outcome.TheVariants.{Done};
-ghost use Rattle.records.specs.Record.{fullRecord};
+ghost use Rattle.records.specs.Record.{full_record};
 ghost use Rattle.identifications.specs.Identification.{identification};
-ghost use Rattle.record_layouts.specs.Layout.{layoutAt};
-ghost use Rattle.record_reading.specs.Verdict.{verdictFrom, judged, unjudged, judgedWhole};
+ghost use Rattle.record_layouts.specs.Layout.{layout_at};
+ghost use Rattle.record_reading.specs.Verdict.{verdict_from, judged, unjudged, judged_whole};
 
 use channels::{Description, Format};
 use descriptions::Measured;
@@ -35,7 +35,7 @@ pub struct Judged {
 // The verdict on a record that lies so.
 fn verdict_on(layout: Layout, start: usize) -> Verdict
     requires { (end : ℕ) → layout.outcome ≡ Done end → start ≤ end }
-    ensures { (s : List ℕ) → start ≤ length s → layout ≡ layoutAt s start → result ≡ verdictFrom start (readAt fullRecord s start) }
+    ensures { (s : List ℕ) → start ≤ length s → layout ≡ layout_at s start → result ≡ verdict_from start (read_at full_record s start) }
 {
     let outcome = layout.outcome;
     match outcome {
@@ -53,7 +53,7 @@ fn verdict_on(layout: Layout, start: usize) -> Verdict
 
 // What stands from a place on: whether it is a record. A refusal's place counts from the start of the bytes.
 pub fn verdict_at(bytes: &[u8], start: usize) -> Verdict
-    ensures { result ≡ verdictFrom start (readAt fullRecord bytes.now start) }
+    ensures { result ≡ verdict_from start (read_at full_record bytes.now start) }
 {
     if bytes.len() < start {
         return Verdict::Refused(Refusal::Short);
@@ -75,7 +75,7 @@ fn unjudged(verdict: Verdict) -> Judged
 
 // The front of some bytes, with the description of the record that stands there, which is read once.
 pub fn judge(bytes: &[u8]) -> Judged
-    ensures { result ≡ judged (run fullRecord bytes.now) }
+    ensures { result ≡ judged (run full_record bytes.now) }
 {
     let identified = identifications::end(bytes, 0);
     match identified {
@@ -86,7 +86,7 @@ pub fn judge(bytes: &[u8]) -> Judged
 
 // The same, behind the identifier and the version.
 fn judge_behind(bytes: &[u8], at: usize) -> Judged
-    ensures { Done at ≡ told (readAt identification bytes.now 0) → result ≡ judged (run fullRecord bytes.now) }
+    ensures { Done at ≡ told (read_at identification bytes.now 0) → result ≡ judged (run full_record bytes.now) }
 {
     let described = descriptions::read(bytes, at, Format::Full);
     let description = described.description;
@@ -112,7 +112,7 @@ fn judge_behind(bytes: &[u8], at: usize) -> Judged
 
 // A whole slice: the same, and nothing may follow.
 pub fn judge_whole(bytes: &[u8]) -> Judged
-    ensures { result ≡ judgedWhole (length bytes.now) (run fullRecord bytes.now) }
+    ensures { result ≡ judged_whole (length bytes.now) (run full_record bytes.now) }
 {
     let front = judge(bytes);
     let verdict = front.verdict;

@@ -18,16 +18,16 @@ use Rattle.refusals.specs.declared.Refusal.{Refusal}
 use Rattle.refusals.specs.declared.Judgement.TheVariants.{Refused}
 use Rattle.description_judging.specs.Judging as described
 use Rattle.orders.specs.declared.Order.{Order}
-use Rattle.records.specs.Record.{encodeExtended}
-use Rattle.record_writing.specs.Write.{judgementIn, putWhere, writeIn}
-use Rattle.record_writing.specs.Parts.{openingBytes}
+use Rattle.records.specs.Record.{encode_extended}
+use Rattle.record_writing.specs.Write.{judgement_in, put_where, write_in}
+use Rattle.record_writing.specs.Parts.{opening_bytes}
 use Rattle.record_writing.specs.declared.Written.TheVariants as answers
 
 -- ---- What stands before the points
 
 pub opening-list : (wanted : Bool) (count : ℕ) → count < 16777216
-    → openingBytes wanted count ≡ 0x00 ∷ cond wanted 0x80 0x00 ∷ count / 65536 ∷ count / 256 % 256 ∷ count % 256 ∷ []
-unfolding openingBytes digits
+    → opening_bytes wanted count ≡ 0x00 ∷ cond wanted 0x80 0x00 ∷ count / 65536 ∷ count / 256 % 256 ∷ count % 256 ∷ []
+unfolding opening_bytes digits
 opening-list wanted count h = let z : count / 256 / 256 % 256 ≡ count / 65536 = omega arith in rw z
 
 -- five bytes, one behind the other
@@ -41,26 +41,26 @@ laid-five s at a b c d e =
     record { place = refl; bytes = rw (z, y, x) }
 
 -- a record whose description is refused is refused so, and nothing is put
-pub refused-written : (order : Order) (d : Description) (count : ℕ) (values : List ℤ) (wanted : Bool) (extended out : List ℕ) {refusal : Refusal} → described.judgementOf Full d ≡ Refused refusal
-    → writing (answers.Refused refusal) out ≡ writeIn order d count values wanted extended out
-unfolding writeIn judgementIn or_else putWhere
+pub refused-written : (order : Order) (d : Description) (count : ℕ) (values : List ℤ) (wanted : Bool) (extended out : List ℕ) {refusal : Refusal} → described.judgement_of Full d ≡ Refused refusal
+    → writing (answers.Refused refusal) out ≡ write_in order d count values wanted extended out
+unfolding write_in judgement_in or_else put_where
 refused-written order d count values wanted extended out e = rw e
 
 -- ---- Extended data that are wanted
 
 module _ {s : List ℕ} {at : ℕ} (e : List ℕ) (wanted : Bool) (yes : wanted ≡ true) where
-  pub wanted_room : Room s at (encodeExtended (cond wanted (some e) none)) → Room s at (digits 2 (length e) ++ e)
-  unfolding encodeExtended
+  pub wanted_room : Room s at (encode_extended (cond wanted (some e) none)) → Room s at (digits 2 (length e) ++ e)
+  unfolding encode_extended
   wanted_room r = rw yes at r
 
-  pub wanted-laid : {t : List ℕ} {n : ℕ} → Laid s at (digits 2 (length e) ++ e) t n → Laid s at (encodeExtended (cond wanted (some e) none)) t n
-  unfolding encodeExtended
+  pub wanted-laid : {t : List ℕ} {n : ℕ} → Laid s at (digits 2 (length e) ++ e) t n → Laid s at (encode_extended (cond wanted (some e) none)) t n
+  unfolding encode_extended
   wanted-laid l = rw yes l
 
-pub extended-length : (e : List ℕ) (wanted : Bool) → wanted ≡ true → length (encodeExtended (cond wanted (some e) none)) ≡ length e + 2
-unfolding encodeExtended
+pub extended-length : (e : List ℕ) (wanted : Bool) → wanted ≡ true → length (encode_extended (cond wanted (some e) none)) ≡ length e + 2
+unfolding encode_extended
 extended-length e wanted q = rw q (length-append (digits 2 (length e)) e ∙ omega (arith, length_digits 2 (length e)))
 
-pub no-extended-length : (e : List ℕ) (wanted : Bool) → wanted ≡ false → length (encodeExtended (cond wanted (some e) none)) ≡ 0
-unfolding encodeExtended
+pub no-extended-length : (e : List ℕ) (wanted : Bool) → wanted ≡ false → length (encode_extended (cond wanted (some e) none)) ≡ 0
+unfolding encode_extended
 no-extended-length e wanted q = rw q

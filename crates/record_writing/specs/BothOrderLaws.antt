@@ -19,19 +19,19 @@ use Rattle.description_judging.specs.NamingLaws.{names-given}
 use Rattle.orders.specs.Orders.{size, Same}
 use Rattle.orders.specs.OrderLaws.{same_points}
 use Rattle.orders.specs.declared.Order.TheVariants.{Point, Column}
-use Rattle.values.specs.Values.{judgementOf}
+use Rattle.values.specs.Values.{judgement_of}
 use Rattle.values.specs.BothOrders.{NamesNoValue, SameJudgement}
 use Rattle.values.specs.BothOrderLaws.{same-behind, same-stage, same_test, same-judged}
 use Rattle.channels.specs.Descriptors.{stored}
 use Rattle.channels.specs.declared.Format.TheVariants.{Full}
 use Rattle.records.specs.Record.{encode}
-use Rattle.record_writing.specs.Write.{recordIn, countFits, numbersJudged, judgementIn, putWhere, writeIn}
+use Rattle.record_writing.specs.Write.{record_in, count_fits, numbers_judged, judgement_in, put_where, write_in}
 use Rattle.record_writing.specs.BothOrders.{SameWriting, WritesTheSame}
 use Rattle.record_writing.specs.declared.Written.{Written}
 use Rattle.record_writing.specs.declared.Written.TheVariants as written
 
 -- a description names no sample value
-no_value : (d : Description) (refusal : Refusal) → described.judgementOf Full d ≡ Refused refusal → NamesNoValue refusal
+no_value : (d : Description) (refusal : Refusal) → described.judgement_of Full d ≡ Refused refusal → NamesNoValue refusal
 no_value d refusal e at channel q = let x = names-given Full d _ (sym (e ∙ ap Refused q)) in impossible (cc x.is)
 
 module _ (d : Description) (count : ℕ) (rows columns : List ℤ) (wanted : Bool) (extended : List ℕ)
@@ -43,17 +43,17 @@ module _ (d : Description) (count : ℕ) (rows columns : List ℤ) (wanted : Boo
   small = not (wanted && ltb 65535 (length extended))
 
   -- the stages of the values know of an order, and no other does
-  judged : SameJudgement count k (judgementIn Point d count rows wanted extended) (judgementIn Column d count columns wanted extended)
-  unfolding judgementIn numbersJudged stages
+  judged : SameJudgement count k (judgement_in Point d count rows wanted extended) (judgement_in Column d count columns wanted extended)
+  unfolding judgement_in numbers_judged stages
   judged =
-      same-behind count k (described.judgementOf Full d) (described.judgementOf Full d) _ _ (same-stage count k (described.judgementOf Full d) (no_value d))
-      (same-behind count k (require (countFits count) (OutOfRange Count)) (require (countFits count) (OutOfRange Count)) _ _
-      (same_test count k (countFits count) (OutOfRange Count) (λ at channel e. impossible (cc)))
-      (same-behind count k (judgementOf 2 (stored d) Point count rows) (judgementOf 2 (stored d) Column count columns) _ _ (same-judged 2 (stored d) count rows columns many same)
+      same-behind count k (described.judgement_of Full d) (described.judgement_of Full d) _ _ (same-stage count k (described.judgement_of Full d) (no_value d))
+      (same-behind count k (require (count_fits count) (OutOfRange Count)) (require (count_fits count) (OutOfRange Count)) _ _
+      (same_test count k (count_fits count) (OutOfRange Count) (λ at channel e. impossible (cc)))
+      (same-behind count k (judgement_of 2 (stored d) Point count rows) (judgement_of 2 (stored d) Column count columns) _ _ (same-judged 2 (stored d) count rows columns many same)
       (same-behind count k (require small ExtendedSize) (require small ExtendedSize) Passed Passed (same_test count k small ExtendedSize (λ at channel e. impossible (cc))) tt)))
 
-  put : (bytes out : List ℕ) (a b : Judgement) → SameJudgement count k a b → SameWriting count k (putWhere bytes out a) (putWhere bytes out b)
-  unfolding putWhere
+  put : (bytes out : List ℕ) (a b : Judgement) → SameJudgement count k a b → SameWriting count k (put_where bytes out a) (put_where bytes out b)
+  unfolding put_where
   put bytes out Passed Passed h = go (leb (length bytes) (length out))
     where
       room : (t : Bool) → Writing Written
@@ -66,12 +66,12 @@ module _ (d : Description) (count : ℕ) (rows columns : List ℤ) (wanted : Boo
   put bytes out (Refused x) Passed h = absurd h
   put bytes out (Refused x) (Refused y) h = record { answer = h; bytes = refl }
 
-  one-record : recordIn Point d count rows wanted extended ≡ recordIn Column d count columns wanted extended
-  unfolding recordIn
+  one-record : record_in Point d count rows wanted extended ≡ record_in Column d count columns wanted extended
+  unfolding record_in
   one-record = ap (λ points. record { description = d; points = points; extended = cond wanted (some extended) none }) (same_points count k rows columns same)
 
 pub writes-the-same : WritesTheSame
-unfolding writeIn
+unfolding write_in
 writes-the-same d count rows columns wanted extended out many same =
     rw (one-record d count rows columns wanted extended many same)
-    (put d count rows columns wanted extended many same (encode (recordIn Column d count columns wanted extended)) out _ _ (judged d count rows columns wanted extended many same))
+    (put d count rows columns wanted extended many same (encode (record_in Column d count columns wanted extended)) out _ _ (judged d count rows columns wanted extended many same))

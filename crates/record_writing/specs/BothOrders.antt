@@ -5,7 +5,7 @@ use Rattle.channels.specs.declared.Description.{Description}
 use Rattle.orders.specs.Orders.{size, Same}
 use Rattle.values.specs.BothOrders.{SameRefusal}
 use Rattle.channels.specs.Descriptors.{stored}
-use Rattle.record_writing.specs.Write.{writeOf, writeColumnsOf}
+use Rattle.record_writing.specs.Write.{write_of, write_columns_of}
 use Rattle.record_writing.specs.declared.Written.{Written}
 use Rattle.record_writing.specs.declared.Written.TheVariants.{Record, Refused}
 
@@ -26,4 +26,4 @@ abbrev pub WritesTheSame : Type 0
 WritesTheSame =
     (d : Description) (count : ℕ) (rows columns : List ℤ) (wanted : Bool) (extended out : List ℕ)
     → length rows ≡ length columns → Same count (size (stored d)) rows columns
-    → SameWriting count (size (stored d)) (writeOf d count rows wanted extended out) (writeColumnsOf d count columns wanted extended out)
+    → SameWriting count (size (stored d)) (write_of d count rows wanted extended out) (write_columns_of d count columns wanted extended out)

@@ -7,7 +7,7 @@ use Rattle.formats.specs.Bytes.{impossible}
 use Rattle.formats.specs.Lent.{writing}
 use Rattle.formats.specs.Put.{puts}
 use Rattle.refusals.specs.Stages.{require, or_else, stages}
-use Rattle.refusals.specs.Ranges.{firstMisfit, FirstOutside}
+use Rattle.refusals.specs.Ranges.{first_misfit, FirstOutside}
 use Rattle.refusals.specs.RangeLaws.{joined, named-first, first-named}
 use Rattle.refusals.specs.declared.Quantity.{Quantity}
 use Rattle.refusals.specs.declared.Quantity.TheVariants.{Count}
@@ -15,7 +15,7 @@ use Rattle.refusals.specs.declared.Refusal.TheVariants.{OutOfRange, Amount, Exte
 use Rattle.refusals.specs.declared.Judgement.{Judgement}
 use Rattle.refusals.specs.declared.Judgement.TheVariants.{Passed, Refused}
 use Rattle.channels.specs.declared.Description.{Description}
-use Rattle.descriptions.specs.Description.{includesXY}
+use Rattle.descriptions.specs.Description.{includes_xy}
 use Rattle.description_judging.specs.Judging as described
 use Rattle.description_judging.specs.NamingLaws.{by-numbers, tidy-first}
 use Rattle.values.specs.Values as values
@@ -25,7 +25,7 @@ use Rattle.orders.specs.declared.Order.{Order}
 use Rattle.channels.specs.Descriptors.{stored}
 use Rattle.channels.specs.declared.Format.TheVariants.{Full}
 use Rattle.records.specs.Record.{encode}
-use Rattle.record_writing.specs.Write.{recordIn, countFits, numbersJudged, judgementIn, putWhere, writeIn}
+use Rattle.record_writing.specs.Write.{record_in, count_fits, numbers_judged, judgement_in, put_where, write_in}
 use Rattle.record_writing.specs.declared.Written.TheVariants as written
 use Rattle.record_writing.specs.Naming.{numbers, NamesFirst, NamesEvery}
 
@@ -55,32 +55,32 @@ in-turn Passed true Passed small name e = impossible (cc)
 
 module _ (order : Order) (d : Description) (count : ℕ) (lent : List ℤ) (wanted : Bool) (extended : List ℕ) (name : Quantity) where
   abbrev attributes : Judgement
-  attributes = firstMisfit (described.numbers 2 d)
+  attributes = first_misfit (described.numbers 2 d)
 
   abbrev sampled : Judgement
-  sampled = firstMisfit (samples 2 (stored d) order count lent)
+  sampled = first_misfit (samples 2 (stored d) order count lent)
 
-  first : judgementIn order d count lent wanted extended ≡ Refused (OutOfRange name) → FirstOutside (numbers order d count lent) name
-  unfolding judgementIn values.judgementOf numbersJudged numbers firstMisfit
+  first : judgement_in order d count lent wanted extended ≡ Refused (OutOfRange name) → FirstOutside (numbers order d count lent) name
+  unfolding judgement_in values.judgement_of numbers_judged numbers first_misfit
   first e =
-      let x = tidy-first Full d (numbersJudged order (stored d) count lent wanted extended) name e in
+      let x = tidy-first Full d (numbers_judged order (stored d) count lent wanted extended) name e in
       let e' = rw (by-numbers Full d x.0 x.1) at e in
       named-first
       (numbers order d count lent)
       name
-      (joined (described.numbers 2 d) _ ∙ in_order attributes (countFits count) (eqb (length lent) (count * size (stored d))) sampled (not (wanted && ltb 65535 (length extended))) name e')
+      (joined (described.numbers 2 d) _ ∙ in_order attributes (count_fits count) (eqb (length lent) (count * size (stored d))) sampled (not (wanted && ltb 65535 (length extended))) name e')
 
-  every : T (includesXY d) → T (described.neatIn Full d) → length lent ≡ count * size (stored d) → FirstOutside (numbers order d count lent) name → judgementIn order d count lent wanted extended ≡ Refused (OutOfRange name)
-  unfolding judgementIn values.judgementOf numbersJudged numbers firstMisfit
+  every : T (includes_xy d) → T (described.neat_in Full d) → length lent ≡ count * size (stored d) → FirstOutside (numbers order d count lent) name → judgement_in order d count lent wanted extended ≡ Refused (OutOfRange name)
+  unfolding judgement_in values.judgement_of numbers_judged numbers first_misfit
   every xy neat amount x =
       rw (by-numbers Full d xy neat, eq-eqb (length lent) (count * size (stored d)) amount)
-      (in-turn attributes (countFits count) sampled (not (wanted && ltb 65535 (length extended))) name (sym (joined (described.numbers 2 d) _) ∙ first-named (numbers order d count lent) name x))
+      (in-turn attributes (count_fits count) sampled (not (wanted && ltb 65535 (length extended))) name (sym (joined (described.numbers 2 d) _) ∙ first-named (numbers order d count lent) name x))
 
 -- ---- The answer
 
 -- 12 is said by a stage: there is no other answer behind them but 15
-by-a-stage : (j : Judgement) (bytes out : List ℕ) (name : Quantity) → written.Refused (OutOfRange name) ≡ (putWhere bytes out j).answer → j ≡ Refused (OutOfRange name)
-unfolding putWhere
+by-a-stage : (j : Judgement) (bytes out : List ℕ) (name : Quantity) → written.Refused (OutOfRange name) ≡ (put_where bytes out j).answer → j ≡ Refused (OutOfRange name)
+unfolding put_where
 by-a-stage Passed bytes out name e = go (leb (length bytes) (length out)) e
   where
     go : (t : Bool) → written.Refused (OutOfRange name) ≡ (cond t (writing (written.Record (length bytes)) (puts out 0 bytes)) (writing (written.Refused Room) out)).answer → Passed ≡ Refused (OutOfRange name)
@@ -89,10 +89,10 @@ by-a-stage Passed bytes out name e = go (leb (length bytes) (length out)) e
 by-a-stage (Refused refusal) bytes out name e = ap Refused (cc)
 
 pub names-first : NamesFirst
-unfolding writeIn
+unfolding write_in
 names-first order d count lent wanted extended out kept name e =
-    first order d count lent wanted extended name (by-a-stage (judgementIn order d count lent wanted extended) (encode (recordIn order d count lent wanted extended)) out name (ap (λ v. v.answer) e))
+    first order d count lent wanted extended name (by-a-stage (judgement_in order d count lent wanted extended) (encode (record_in order d count lent wanted extended)) out name (ap (λ v. v.answer) e))
 
 pub names-every : NamesEvery
-unfolding writeIn putWhere
+unfolding write_in put_where
 names-every order d count lent wanted extended out name xy neat amount x = sym (rw (every order d count lent wanted extended name xy neat amount x))

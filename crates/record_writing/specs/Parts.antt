@@ -4,28 +4,28 @@ use mathlib.Core.List.{List, ◌∷◌, ◌++◌, flat_map}
 use Rattle.std.proofs.Math.Option.{none, some}
 use Rattle.formats.specs.Number.{digits}
 use Rattle.formats.specs.Lent.{Writing}
-use Rattle.points.specs.Points.{encodePoint}
+use Rattle.points.specs.Points.{encode_point}
 use Rattle.orders.specs.Orders.{size, points_of}
 use Rattle.orders.specs.declared.Order.{Order}
-use Rattle.records.specs.Record.{identifierBytes, versionBytes, encodeExtended}
-use Rattle.record_writing.specs.Write.{numbersJudged, putWhere}
+use Rattle.records.specs.Record.{identifier_bytes, version_bytes, encode_extended}
+use Rattle.record_writing.specs.Write.{numbers_judged, put_where}
 use Rattle.record_writing.specs.declared.Written.{Written}
 
 -- the header's reserved byte (7.3.5), the opening byte (7.4.1) and the count of points (7.4.2)
-unfoldable pub openingBytes : (wanted : Bool) (count : ℕ) → List ℕ
-openingBytes wanted count = 0x00 ∷ cond wanted 0x80 0x00 ∷ digits 3 count
+unfoldable pub opening_bytes : (wanted : Bool) (count : ℕ) → List ℕ
+opening_bytes wanted count = 0x00 ∷ cond wanted 0x80 0x00 ∷ digits 3 count
 
 -- all that stands before the points, by the bytes of the description
-unfoldable pub frontBytes : (described : List ℕ) (wanted : Bool) (count : ℕ) → List ℕ
-frontBytes described wanted count = identifierBytes ++ versionBytes ++ described ++ openingBytes wanted count
+unfoldable pub front_bytes : (described : List ℕ) (wanted : Bool) (count : ℕ) → List ℕ
+front_bytes described wanted count = identifier_bytes ++ version_bytes ++ described ++ opening_bytes wanted count
 
 -- the whole record
-unfoldable pub recordBytes : Order → (described : List ℕ) (stored : List Bool) (count : ℕ) (numbers : List ℤ) (wanted : Bool) (extended : List ℕ) → List ℕ
-recordBytes order described stored count numbers wanted extended =
-    frontBytes described wanted count
-    ++ (flat_map (encodePoint 2 stored) (points_of order count (size stored) numbers) ++ encodeExtended (cond wanted (some extended) none))
+unfoldable pub record_bytes : Order → (described : List ℕ) (stored : List Bool) (count : ℕ) (numbers : List ℤ) (wanted : Bool) (extended : List ℕ) → List ℕ
+record_bytes order described stored count numbers wanted extended =
+    front_bytes described wanted count
+    ++ (flat_map (encode_point 2 stored) (points_of order count (size stored) numbers) ++ encode_extended (cond wanted (some extended) none))
 
 -- what becomes of a record whose description passed: of the description its bytes are known, and which channels are stored
-unfoldable pub writeDescribed : Order → (described : List ℕ) (stored : List Bool) (count : ℕ) (numbers : List ℤ) (wanted : Bool) (extended : List ℕ) (out : List ℕ) → Writing Written
-writeDescribed order described stored count numbers wanted extended out =
-    putWhere (recordBytes order described stored count numbers wanted extended) out (numbersJudged order stored count numbers wanted extended)
+unfoldable pub write_described : Order → (described : List ℕ) (stored : List Bool) (count : ℕ) (numbers : List ℤ) (wanted : Bool) (extended : List ℕ) (out : List ℕ) → Writing Written
+write_described order described stored count numbers wanted extended out =
+    put_where (record_bytes order described stored count numbers wanted extended) out (numbers_judged order stored count numbers wanted extended)

@@ -24,10 +24,10 @@ use Rattle.values.specs.ValueLaws.{valid-sizes, laid-fits}
 use Rattle.orders.specs.declared.Order.{Order}
 use Rattle.channels.specs.Descriptors.{stored}
 use Rattle.channels.specs.declared.Format.TheVariants.{Full}
-use Rattle.records.specs.Record.{Record, fullRecord, encode, ValidExtended, Valid, present, extendedBytes}
+use Rattle.records.specs.Record.{Record, full_record, encode, ValidExtended, Valid, present, extended_bytes}
 use Rattle.records.specs.Demands.{read-after-write, write-after-read}
-use Rattle.record_reading.specs.Verdict.{verdictFrom, descriptionIn, judged}
-use Rattle.record_writing.specs.Write.{recordIn, judgementIn, Passes, putWhere, writeIn}
+use Rattle.record_reading.specs.Verdict.{verdict_from, description_in, judged}
+use Rattle.record_writing.specs.Write.{record_in, judgement_in, Passes, put_where, write_in}
 use Rattle.record_writing.specs.WriteLaws.{passes, passes-valid, passing}
 use Rattle.record_reading.specs.declared.Verdict.TheVariants as verdict
 use Rattle.record_writing.specs.declared.Written.TheVariants as written
@@ -39,13 +39,13 @@ unfolding present
 present-wanted true extended = refl
 present-wanted false extended = refl
 
-extended-same : (e : Option (List ℕ)) → cond (present e) (some (extendedBytes e)) none ≡ e
-unfolding present extendedBytes
+extended-same : (e : Option (List ℕ)) → cond (present e) (some (extended_bytes e)) none ≡ e
+unfolding present extended_bytes
 extended-same none = refl
 extended-same (some bytes) = refl
 
-extended-small : (e : Option (List ℕ)) → ValidExtended e → T (present e) → length (extendedBytes e) < 65536
-unfolding present extendedBytes ValidExtended
+extended-small : (e : Option (List ℕ)) → ValidExtended e → T (present e) → length (extended_bytes e) < 65536
+unfolding present extended_bytes ValidExtended
 extended-small none h q = absurd q
 extended-small (some bytes) h q = omega (arith, h.0)
 
@@ -53,7 +53,7 @@ extended-small (some bytes) h q = omega (arith, h.0)
 
 module _ (order : Order) (d : Description) (count : ℕ) (values : List ℤ) (wanted : Bool) (extended out : List ℕ) where
   abbrev asked : Record
-  asked = recordIn order d count values wanted extended
+  asked = record_in order d count values wanted extended
 
   -- a record was written: every stage passed, there was room, and its bytes stand before what the output held behind them
   pub record Wrote (n : ℕ) (bytes : List ℕ) : Type 0 where
@@ -76,32 +76,32 @@ module _ (order : Order) (d : Description) (count : ℕ) (values : List ℤ) (wa
       }
   by-room false h p e = impossible (cc (ap (λ x. x.answer) e))
 
-  by-judgement : {n : ℕ} {bytes : List ℕ} (j : Judgement) → judgementIn order d count values wanted extended ≡ j → putWhere (encode asked) out j ≡ writing (written.Record n) bytes → Wrote n bytes
-  unfolding putWhere
+  by-judgement : {n : ℕ} {bytes : List ℕ} (j : Judgement) → judgement_in order d count values wanted extended ≡ j → put_where (encode asked) out j ≡ writing (written.Record n) bytes → Wrote n bytes
+  unfolding put_where
   by-judgement Passed q e = by-room (leb (length (encode asked)) (length out)) refl (passes order d count values wanted extended q) e
   by-judgement (Refused refusal) q e = impossible (cc (ap (λ x. x.answer) e))
 
-  pub wrote : {n : ℕ} {bytes : List ℕ} → writeIn order d count values wanted extended out ≡ writing (written.Record n) bytes → Wrote n bytes
-  unfolding writeIn
-  wrote e = by-judgement (judgementIn order d count values wanted extended) refl e
+  pub wrote : {n : ℕ} {bytes : List ℕ} → write_in order d count values wanted extended out ≡ writing (written.Record n) bytes → Wrote n bytes
+  unfolding write_in
+  wrote e = by-judgement (judgement_in order d count values wanted extended) refl e
 
   -- a description always has sixteen channels, and what is lent as extended data are bytes: so the record is read back, with its points and extended data
-  module _ (sixteen : length d.channels ≡ 16) (lent : Bytes extended) {n : ℕ} {bytes : List ℕ} (e : writeIn order d count values wanted extended out ≡ writing (written.Record n) bytes) where
-    pub written_read : run fullRecord bytes ≡ ok asked n
+  module _ (sixteen : length d.channels ≡ 16) (lent : Bytes extended) {n : ℕ} {bytes : List ℕ} (e : write_in order d count values wanted extended out ≡ writing (written.Record n) bytes) where
+    pub written_read : run full_record bytes ≡ ok asked n
     written_read =
         let w = wrote e in
-        ap (run fullRecord) w.holds ∙ read-after-write asked (drop n out) (passes-valid order d count values wanted extended w.passes sixteen lent) ∙ ap (ok asked) (sym w.size)
+        ap (run full_record) w.holds ∙ read-after-write asked (drop n out) (passes-valid order d count values wanted extended w.passes sixteen lent) ∙ ap (ok asked) (sym w.size)
 
     -- and judged with its length, description and count, and whether extended data are present
-    pub written-judged : judged (run fullRecord bytes) ≡ record { verdict = verdict.Record n count wanted; description = d }
-    unfolding verdictFrom descriptionIn recordIn
+    pub written-judged : judged (run full_record bytes) ≡ record { verdict = verdict.Record n count wanted; description = d }
+    unfolding verdict_from description_in record_in
     written-judged =
         ap judged written_read
         ∙ (λ i. record { verdict = verdict.Record (sub-zero n i) (points-many order count (size (stored d)) values i) (present-wanted wanted extended i); description = d })
 
 -- ---- Read, and written again
 
-module _ (order : Order) (s : List ℕ) (bytes : Bytes s) (r : Record) (n : ℕ) (e : run fullRecord s ≡ ok r n) where
+module _ (order : Order) (s : List ℕ) (bytes : Bytes s) (r : Record) (n : ℕ) (e : run full_record s ≡ ok r n) where
   valid : Valid r
   valid = (write-after-read s r n bytes e).0
 
@@ -109,14 +109,14 @@ module _ (order : Order) (s : List ℕ) (bytes : Bytes s) (r : Record) (n : ℕ)
   values = values_of order (size (stored r.description)) r.points
 
   abbrev extra : List ℕ
-  extra = extendedBytes r.extended
+  extra = extended_bytes r.extended
 
-  same : recordIn order r.description (length r.points) values (present r.extended) extra ≡ r
-  unfolding recordIn
+  same : record_in order r.description (length r.points) values (present r.extended) extra ≡ r
+  unfolding record_in
   same = λ i. record { description = r.description; points = points-again (size (stored r.description)) r.points (valid-sizes 2 (stored r.description) r.points valid.points) order i; extended = extended-same r.extended i }
 
   -- a record that was read passes every stage: writing it is never refused with 4, 11, 12, 13 or 14
-  pub read-passes : judgementIn order r.description (length r.points) values (present r.extended) extra ≡ Passed
+  pub read-passes : judgement_in order r.description (length r.points) values (present r.extended) extra ≡ Passed
   read-passes =
       passing order r.description (length r.points) values (present r.extended) extra
       (record {
@@ -130,11 +130,11 @@ module _ (order : Order) (s : List ℕ) (bytes : Bytes s) (r : Record) (n : ℕ)
 
   -- and where there is room, its bytes are written as they stood
   pub read-written : (out : List ℕ) → n ≤ length out
-      → writeIn order r.description (length r.points) values (present r.extended) extra out ≡ writing (written.Record n) (take n s ++ drop n out)
-  unfolding writeIn putWhere
+      → write_in order r.description (length r.points) values (present r.extended) extra out ≡ writing (written.Record n) (take n s ++ drop n out)
+  unfolding write_in put_where
   read-written out room =
       let w = write-after-read s r n bytes e in
-      let size : length (encode r) ≡ n = sym (ap length w.1) ∙ length-take-le n s (whole fullRecord s e).within in
+      let size : length (encode r) ≡ n = sym (ap length w.1) ∙ length-take-le n s (whole full_record s e).within in
       let place : 0 + length (encode r) ≡ n = omega arith in
       rw (read-passes, same, le-leb (length (encode r)) (length out) (omega arith))
       (ap₂ writing (ap written.Record size) (puts-is out 0 (encode r) (omega arith) ∙ ap₂ (λ b k. b ++ drop k out) (sym w.1) place))

@@ -21,52 +21,52 @@ use Rattle.record_writing.specs.declared.Written.{Written}
 use Rattle.record_writing.specs.declared.Written.TheVariants as written
 
 -- the record that a writer is asked for: numbers in stored order, point by point or column by column; extended data only where they are wanted
-unfoldable pub recordIn : Order → Description → (count : ℕ) (numbers : List ℤ) (wanted : Bool) (extended : List ℕ) → Record
-recordIn order d count numbers wanted extended =
+unfoldable pub record_in : Order → Description → (count : ℕ) (numbers : List ℤ) (wanted : Bool) (extended : List ℕ) → Record
+record_in order d count numbers wanted extended =
     record { description = d; points = points_of order count (size (stored d)) numbers; extended = cond wanted (some extended) none }
 
 -- three bytes hold the count, and two the length of extended data that are wanted
-abbrev pub countFits : (count : ℕ) → Bool
-countFits count = not (ltb 16777215 count)
+abbrev pub count_fits : (count : ℕ) → Bool
+count_fits count = not (ltb 16777215 count)
 
-abbrev pub countStage : (count : ℕ) → Judgement
-countStage count = require (countFits count) (OutOfRange quantity.Count)
+abbrev pub count_stage : (count : ℕ) → Judgement
+count_stage count = require (count_fits count) (OutOfRange quantity.Count)
 
-abbrev pub extendedStage : (wanted : Bool) (extended : List ℕ) → Judgement
-extendedStage wanted extended = require (not (wanted && ltb 65535 (length extended))) ExtendedSize
+abbrev pub extended_stage : (wanted : Bool) (extended : List ℕ) → Judgement
+extended_stage wanted extended = require (not (wanted && ltb 65535 (length extended))) ExtendedSize
 
 -- the stages behind the description's, in their order: the count, the amount of numbers and the numbers, the extended data
-unfoldable pub numbersJudged : Order → (stored : List Bool) (count : ℕ) (numbers : List ℤ) (wanted : Bool) (extended : List ℕ) → Judgement
-numbersJudged order stored count numbers wanted extended =
-    stages (countStage count ∷ values.judgementOf 2 stored order count numbers ∷ extendedStage wanted extended ∷ [])
+unfoldable pub numbers_judged : Order → (stored : List Bool) (count : ℕ) (numbers : List ℤ) (wanted : Bool) (extended : List ℕ) → Judgement
+numbers_judged order stored count numbers wanted extended =
+    stages (count_stage count ∷ values.judgement_of 2 stored order count numbers ∷ extended_stage wanted extended ∷ [])
 
 -- the description's own stages come first
-unfoldable pub judgementIn : Order → Description → (count : ℕ) (numbers : List ℤ) (wanted : Bool) (extended : List ℕ) → Judgement
-judgementIn order d count numbers wanted extended = or_else (described.judgementOf Full d) (numbersJudged order (stored d) count numbers wanted extended)
+unfoldable pub judgement_in : Order → Description → (count : ℕ) (numbers : List ℤ) (wanted : Bool) (extended : List ℕ) → Judgement
+judgement_in order d count numbers wanted extended = or_else (described.judgement_of Full d) (numbers_judged order (stored d) count numbers wanted extended)
 
 -- the bytes of a record that passes are put at the start where there is room for them; else the output stays as it was
-unfoldable pub putWhere : (bytes out : List ℕ) → Judgement → Writing Written
-putWhere bytes out judgement.Passed = cond (leb (length bytes) (length out)) (writing (written.Record (length bytes)) (puts out 0 bytes)) (writing (written.Refused Room) out)
-putWhere bytes out (judgement.Refused refusal) = writing (written.Refused refusal) out
+unfoldable pub put_where : (bytes out : List ℕ) → Judgement → Writing Written
+put_where bytes out judgement.Passed = cond (leb (length bytes) (length out)) (writing (written.Record (length bytes)) (puts out 0 bytes)) (writing (written.Refused Room) out)
+put_where bytes out (judgement.Refused refusal) = writing (written.Refused refusal) out
 
-unfoldable pub writeIn : Order → Description → (count : ℕ) (numbers : List ℤ) (wanted : Bool) (extended : List ℕ) (out : List ℕ) → Writing Written
-writeIn order d count numbers wanted extended out = putWhere (encode (recordIn order d count numbers wanted extended)) out (judgementIn order d count numbers wanted extended)
+unfoldable pub write_in : Order → Description → (count : ℕ) (numbers : List ℤ) (wanted : Bool) (extended : List ℕ) (out : List ℕ) → Writing Written
+write_in order d count numbers wanted extended out = put_where (encode (record_in order d count numbers wanted extended)) out (judgement_in order d count numbers wanted extended)
 
 -- ---- The two writers: from values point by point, and column by column
 
-abbrev pub writeOf : Description → (count : ℕ) (numbers : List ℤ) (wanted : Bool) (extended : List ℕ) (out : List ℕ) → Writing Written
-writeOf d count numbers wanted extended out = writeIn Point d count numbers wanted extended out
+abbrev pub write_of : Description → (count : ℕ) (numbers : List ℤ) (wanted : Bool) (extended : List ℕ) (out : List ℕ) → Writing Written
+write_of d count numbers wanted extended out = write_in Point d count numbers wanted extended out
 
-abbrev pub writeColumnsOf : Description → (count : ℕ) (numbers : List ℤ) (wanted : Bool) (extended : List ℕ) (out : List ℕ) → Writing Written
-writeColumnsOf d count numbers wanted extended out = writeIn Column d count numbers wanted extended out
+abbrev pub write_columns_of : Description → (count : ℕ) (numbers : List ℤ) (wanted : Bool) (extended : List ℕ) (out : List ℕ) → Writing Written
+write_columns_of d count numbers wanted extended out = write_in Column d count numbers wanted extended out
 
 -- ---- What holds of a record that passed the stages behind the description's, and of one that passed every stage but the room
 
 pub record NumbersPass (order : Order) (stored : List Bool) (count : ℕ) (numbers : List ℤ) (wanted : Bool) (extended : List ℕ) : Type 0 where
   pub counted : count < 16777216
-  pub fitting : values.judgementOf 2 stored order count numbers ≡ judgement.Passed
+  pub fitting : values.judgement_of 2 stored order count numbers ≡ judgement.Passed
   pub small : T wanted → length extended < 65536
 
 pub record Passes (order : Order) (d : Description) (count : ℕ) (numbers : List ℤ) (wanted : Bool) (extended : List ℕ) : Type 0 where
-  pub described : described.judgementOf Full d ≡ judgement.Passed
+  pub described : described.judgement_of Full d ≡ judgement.Passed
   pub numbered : NumbersPass order (stored d) count numbers wanted extended

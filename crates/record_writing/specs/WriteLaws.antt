@@ -14,20 +14,20 @@ use Rattle.refusals.specs.declared.Refusal.{Refusal}
 use Rattle.refusals.specs.declared.Refusal.TheVariants.{OutOfRange, ExtendedSize}
 use Rattle.refusals.specs.declared.Judgement.TheVariants.{Passed, Refused}
 use Rattle.channels.specs.declared.Description.{Description}
-use Rattle.points.specs.Points.{width, encodePoint}
+use Rattle.points.specs.Points.{width, encode_point}
 use Rattle.values.specs.Values as values
 use Rattle.orders.specs.Orders.{size, points_of}
 use Rattle.orders.specs.OrderLaws.{points-many}
 use Rattle.values.specs.ValueLaws.{fits-valid, fits-length}
 use Rattle.orders.specs.declared.Order.{Order}
-use Rattle.descriptions.specs.Description.{encodeDescription}
+use Rattle.descriptions.specs.Description.{encode_description}
 use Rattle.description_judging.specs.Judging as described
 use Rattle.description_judging.specs.JudgingLaws.{passed-valid}
 use Rattle.channels.specs.Descriptors.{stored}
 use Rattle.channels.specs.declared.Format.TheVariants.{Full}
-use Rattle.records.specs.Record.{identifierBytes, versionBytes, openingByte, encodeExtended, encode, ValidExtended, Valid}
-use Rattle.record_writing.specs.Write.{recordIn, countStage, extendedStage, numbersJudged, judgementIn, writeIn, NumbersPass, Passes}
-use Rattle.record_writing.specs.Parts.{openingBytes, frontBytes, recordBytes, writeDescribed}
+use Rattle.records.specs.Record.{identifier_bytes, version_bytes, opening_byte, encode_extended, encode, ValidExtended, Valid}
+use Rattle.record_writing.specs.Write.{record_in, count_stage, extended_stage, numbers_judged, judgement_in, write_in, NumbersPass, Passes}
+use Rattle.record_writing.specs.Parts.{opening_bytes, front_bytes, record_bytes, write_described}
 
 -- ---- Small facts
 
@@ -43,8 +43,8 @@ unfolding ValidExtended
 extended-valid true extended h g = (omega (arith, h tt), g)
 extended-valid false extended h g = tt
 
-opened : (wanted : Bool) (extended : List ℕ) → openingByte (cond wanted (some extended) none) ≡ cond wanted 0x80 0x00
-unfolding openingByte
+opened : (wanted : Bool) (extended : List ℕ) → opening_byte (cond wanted (some extended) none) ≡ cond wanted 0x80 0x00
+unfolding opening_byte
 opened true extended = refl
 opened false extended = refl
 
@@ -52,9 +52,9 @@ opened false extended = refl
 
 module _ (order : Order) (stored : List Bool) (count : ℕ) (numbers : List ℤ) (wanted : Bool) (extended : List ℕ) where
   -- how long the bytes are
-  pub bytes-length : (described : List ℕ) → values.judgementOf 2 stored order count numbers ≡ Passed
-      → length described + count * width 2 stored + length (encodeExtended (cond wanted (some extended) none)) + 13 ≡ length (recordBytes order described stored count numbers wanted extended)
-  unfolding recordBytes frontBytes openingBytes
+  pub bytes-length : (described : List ℕ) → values.judgement_of 2 stored order count numbers ≡ Passed
+      → length described + count * width 2 stored + length (encode_extended (cond wanted (some extended) none)) + 13 ≡ length (record_bytes order described stored count numbers wanted extended)
+  unfolding record_bytes front_bytes opening_bytes
   bytes-length described e = sym (simp length-append (omega (arith, fits-length 2 stored order count numbers e, length_digits 3 count)))
 
   not-long : (wanted : Bool) → (wanted && ltb 65535 (length extended)) ≡ false → T wanted → length extended < 65536
@@ -62,10 +62,10 @@ module _ (order : Order) (stored : List Bool) (count : ℕ) (numbers : List ℤ)
   not-long false e h = absurd h
 
   -- what passes the stages behind the description's
-  pub numbers-pass : numbersJudged order stored count numbers wanted extended ≡ Passed → NumbersPass order stored count numbers wanted extended
-  unfolding numbersJudged
+  pub numbers-pass : numbers_judged order stored count numbers wanted extended ≡ Passed → NumbersPass order stored count numbers wanted extended
+  unfolding numbers_judged
   numbers-pass e =
-      let y = stages-passed (countStage count ∷ values.judgementOf 2 stored order count numbers ∷ extendedStage wanted extended ∷ []) e in
+      let y = stages-passed (count_stage count ∷ values.judgement_of 2 stored order count numbers ∷ extended_stage wanted extended ∷ []) e in
       record {
         counted = omega (arith, ltb-false 16777215 count (not-true _ (require-passed _ _ y.0)));
         fitting = y.1.0;
@@ -78,21 +78,21 @@ module _ (order : Order) (stored : List Bool) (count : ℕ) (numbers : List ℤ)
     within : ltb 16777215 count ≡ false
     within = le-ltb 16777215 count (omega arith)
 
-    pub at-values : {refusal : Refusal} → values.judgementOf 2 stored order count numbers ≡ Refused refusal → numbersJudged order stored count numbers wanted extended ≡ Refused refusal
-    unfolding numbersJudged or_else stages require
+    pub at-values : {refusal : Refusal} → values.judgement_of 2 stored order count numbers ≡ Refused refusal → numbers_judged order stored count numbers wanted extended ≡ Refused refusal
+    unfolding numbers_judged or_else stages require
     at-values h = rw (within, h)
 
-    module _ (fit : values.judgementOf 2 stored order count numbers ≡ Passed) where
-      pub at-extended : wanted ≡ true → 65535 < length extended → numbersJudged order stored count numbers wanted extended ≡ Refused ExtendedSize
-      unfolding numbersJudged or_else stages require
+    module _ (fit : values.judgement_of 2 stored order count numbers ≡ Passed) where
+      pub at-extended : wanted ≡ true → 65535 < length extended → numbers_judged order stored count numbers wanted extended ≡ Refused ExtendedSize
+      unfolding numbers_judged or_else stages require
       at-extended e h = rw (within, fit, e, lt-ltb 65535 (length extended) h)
 
-      pub at_last : (T wanted → length extended < 65536) → numbersJudged order stored count numbers wanted extended ≡ Passed
-      unfolding numbersJudged or_else stages require
+      pub at_last : (T wanted → length extended < 65536) → numbers_judged order stored count numbers wanted extended ≡ Passed
+      unfolding numbers_judged or_else stages require
       at_last h = rw (within, fit, fits-length-of wanted extended h)
 
-  pub at_count : 16777215 < count → numbersJudged order stored count numbers wanted extended ≡ Refused (OutOfRange quantity.Count)
-  unfolding numbersJudged or_else stages require
+  pub at_count : 16777215 < count → numbers_judged order stored count numbers wanted extended ≡ Refused (OutOfRange quantity.Count)
+  unfolding numbers_judged or_else stages require
   at_count h = rw (lt-ltb 16777215 count h)
 
 -- ---- The record
@@ -102,23 +102,23 @@ module _ (order : Order) (d : Description) (count : ℕ) (numbers : List ℤ) (w
   extra = cond wanted (some extended) none
 
   abbrev row : List ℕ
-  row = flat_map (encodePoint 2 (stored d)) (points_of order count (size (stored d)) numbers)
+  row = flat_map (encode_point 2 (stored d)) (points_of order count (size (stored d)) numbers)
 
   -- its bytes, part by part
-  pub in_parts : encode (recordIn order d count numbers wanted extended) ≡ recordBytes order (encodeDescription 2 d) (stored d) count numbers wanted extended
-  unfolding encode recordIn recordBytes frontBytes openingBytes
+  pub in_parts : encode (record_in order d count numbers wanted extended) ≡ record_bytes order (encode_description 2 d) (stored d) count numbers wanted extended
+  unfolding encode record_in record_bytes front_bytes opening_bytes
   in_parts = rw (points-many order count (size (stored d)) numbers, opened wanted extended)
-      (regroup identifierBytes versionBytes (encodeDescription 2 d) (0x00 ∷ []) (cond wanted 0x80 0x00 ∷ []) (digits 3 count) row (encodeExtended extra))
+      (regroup identifier_bytes version_bytes (encode_description 2 d) (0x00 ∷ []) (cond wanted 0x80 0x00 ∷ []) (digits 3 count) row (encode_extended extra))
 
   -- what becomes of it, once its description was put aside
-  pub described-written : (out : List ℕ) {bytes : List ℕ} {flags : List Bool} → described.judgementOf Full d ≡ Passed → bytes ≡ encodeDescription 2 d → flags ≡ stored d
-      → writeDescribed order bytes flags count numbers wanted extended out ≡ writeIn order d count numbers wanted extended out
-  unfolding writeIn writeDescribed judgementIn or_else
+  pub described-written : (out : List ℕ) {bytes : List ℕ} {flags : List Bool} → described.judgement_of Full d ≡ Passed → bytes ≡ encode_description 2 d → flags ≡ stored d
+      → write_described order bytes flags count numbers wanted extended out ≡ write_in order d count numbers wanted extended out
+  unfolding write_in write_described judgement_in or_else
   described-written out e b f = rw (b, f) (sym (rw (e, in_parts)))
 
   -- it is valid
-  pub passes-valid : Passes order d count numbers wanted extended → length d.channels ≡ 16 → Bytes extended → Valid (recordIn order d count numbers wanted extended)
-  unfolding recordIn
+  pub passes-valid : Passes order d count numbers wanted extended → length d.channels ≡ 16 → Bytes extended → Valid (record_in order d count numbers wanted extended)
+  unfolding record_in
   passes-valid p h g = record {
     description = passed-valid Full d p.described h;
     count = omega (arith, points-many order count (size (stored d)) numbers, p.numbered.counted);
@@ -127,12 +127,12 @@ module _ (order : Order) (d : Description) (count : ℕ) (numbers : List ℤ) (w
   }
 
   -- what passes every stage, and the other way round
-  pub passes : judgementIn order d count numbers wanted extended ≡ Passed → Passes order d count numbers wanted extended
-  unfolding judgementIn
+  pub passes : judgement_in order d count numbers wanted extended ≡ Passed → Passes order d count numbers wanted extended
+  unfolding judgement_in
   passes e =
-      let x = or-else-passed (described.judgementOf Full d) (numbersJudged order (stored d) count numbers wanted extended) e in
+      let x = or-else-passed (described.judgement_of Full d) (numbers_judged order (stored d) count numbers wanted extended) e in
       record { described = x.0; numbered = numbers-pass order (stored d) count numbers wanted extended x.1 }
 
-  pub passing : Passes order d count numbers wanted extended → judgementIn order d count numbers wanted extended ≡ Passed
-  unfolding judgementIn or_else
+  pub passing : Passes order d count numbers wanted extended → judgement_in order d count numbers wanted extended ≡ Passed
+  unfolding judgement_in or_else
   passing p = rw p.described (at_last order (stored d) count numbers wanted extended p.numbered.counted p.numbered.fitting p.numbered.small)

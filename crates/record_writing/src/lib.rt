@@ -5,9 +5,9 @@ ghost use Rattle.formats.specs.Laid.{Room, Laid};
 ghost use Rattle.formats.specs.Lent.{writing};
 ghost use Rattle.descriptions.specs.Description.{description};
 ghost use Rattle.refusals.specs.declared.Judgement.TheVariants.{Passed};
-ghost use Rattle.records.specs.Record.{encodeExtended};
-ghost use Rattle.record_writing.specs.Write.{numbersJudged, NumbersPass, writeIn, writeOf, writeColumnsOf};
-ghost use Rattle.record_writing.specs.Parts.{openingBytes, frontBytes, recordBytes, writeDescribed};
+ghost use Rattle.records.specs.Record.{encode_extended};
+ghost use Rattle.record_writing.specs.Write.{numbers_judged, NumbersPass, write_in, write_of, write_columns_of};
+ghost use Rattle.record_writing.specs.Parts.{opening_bytes, front_bytes, record_bytes, write_described};
 
 use channels::{Description, Format};
 use orders::Order;
@@ -22,8 +22,8 @@ pub enum Written {
 
 // The header's reserved byte, the opening byte and the count are put.
 fn put_opening(out: &mut [u8], at: usize, wanted: bool, count: usize) -> usize
-    requires { (count < 16777216) × Room out.old at (openingBytes wanted count) }
-    ensures { Laid out.old at (openingBytes wanted count) out.new result }
+    requires { (count < 16777216) × Room out.old at (opening_bytes wanted count) }
+    ensures { Laid out.old at (opening_bytes wanted count) out.new result }
 {
     out[at] = 0;
     out[at + 1] = if wanted { 128 } else { 0 };
@@ -35,8 +35,8 @@ fn put_opening(out: &mut [u8], at: usize, wanted: bool, count: usize) -> usize
 
 // All that stands before the points is put, from the bytes of the description.
 fn put_front(out: &mut [u8], described: &[u8], wanted: bool, count: usize) -> usize
-    requires { (count < 16777216) × Room out.old 0 (frontBytes described.now wanted count) }
-    ensures { Laid out.old 0 (frontBytes described.now wanted count) out.new result }
+    requires { (count < 16777216) × Room out.old 0 (front_bytes described.now wanted count) }
+    ensures { Laid out.old 0 (front_bytes described.now wanted count) out.new result }
 {
     let identifier = records::IDENTIFIER;
     let version = records::VERSION;
@@ -48,8 +48,8 @@ fn put_front(out: &mut [u8], described: &[u8], wanted: bool, count: usize) -> us
 
 // Extended data that are wanted are put behind their length.
 fn put_extension(out: &mut [u8], at: usize, wanted: bool, extended: &[u8]) -> usize
-    requires { (T wanted → length extended.now < 65536) × Room out.old at (encodeExtended (cond wanted (some extended.now) none)) }
-    ensures { Laid out.old at (encodeExtended (cond wanted (some extended.now) none)) out.new result }
+    requires { (T wanted → length extended.now < 65536) × Room out.old at (encode_extended (cond wanted (some extended.now) none)) }
+    ensures { Laid out.old at (encode_extended (cond wanted (some extended.now) none)) out.new result }
 {
     if !wanted {
         return at;
@@ -61,7 +61,7 @@ fn put_extension(out: &mut [u8], at: usize, wanted: bool, extended: &[u8]) -> us
 // How many bytes a record has that passed every stage but the last, by the size of its description and of a point.
 fn record_size(described: usize, width: usize, count: usize, wanted: bool, extended: &[u8]) -> usize
     requires { (described ≤ 178) × (width ≤ 32) × (count < 16777216) × (T wanted → length extended.now < 65536) }
-    ensures { result ≡ described + count * width + length (encodeExtended (cond wanted (some extended.now) none)) + 13 }
+    ensures { result ≡ described + count * width + length (encode_extended (cond wanted (some extended.now) none)) + 13 }
 {
     let front = described + count * width;
     if wanted {
@@ -79,7 +79,7 @@ fn judge_values(
     wanted: bool,
     extended: &[u8],
 ) -> Judgement
-    ensures { result ≡ numbersJudged order stored count values.now wanted extended.now }
+    ensures { result ≡ numbers_judged order stored count values.now wanted extended.now }
 {
     if 16777215 < count {
         return Judgement::Refused(Refusal::OutOfRange {
@@ -109,8 +109,8 @@ fn put_record(
     wanted: bool,
     extended: &[u8],
 ) -> usize
-    requires { NumbersPass order stored count values.now wanted extended.now × Room out.old 0 (recordBytes order described.now stored count values.now wanted extended.now) }
-    ensures { Laid out.old 0 (recordBytes order described.now stored count values.now wanted extended.now) out.new result }
+    requires { NumbersPass order stored count values.now wanted extended.now × Room out.old 0 (record_bytes order described.now stored count values.now wanted extended.now) }
+    ensures { Laid out.old 0 (record_bytes order described.now stored count values.now wanted extended.now) out.new result }
 {
     let at = put_front(out, described, wanted, count);
     let at = values::put(out, at, values, count, Format::Full, stored, order);
@@ -130,7 +130,7 @@ fn write_described(
     out: &mut [u8],
 ) -> Written
     requires { length described.now ≤ 178 }
-    ensures { writing result out.new ≡ writeDescribed order described.now stored count values.now wanted extended.now out.old }
+    ensures { writing result out.new ≡ write_described order described.now stored count values.now wanted extended.now out.old }
 {
     let judged = judge_values(stored, order, count, values, wanted, extended);
     if let Judgement::Refused(refusal) = judged {
@@ -159,7 +159,7 @@ fn write_in(
     extended: &[u8],
     out: &mut [u8],
 ) -> Written
-    ensures { writing result out.new ≡ writeIn order description count values.now wanted extended.now out.old }
+    ensures { writing result out.new ≡ write_in order description count values.now wanted extended.now out.old }
 {
     let mut room: [u8; 178] = [0; 178]; // two inclusion bytes, and eleven for each of sixteen channels
     match description_writing::put(&mut room, 0, description, Format::Full) {
@@ -183,7 +183,7 @@ pub fn write(
     extended: &[u8],
     out: &mut [u8],
 ) -> Written
-    ensures { writing result out.new ≡ writeOf description count values.now wanted extended.now out.old }
+    ensures { writing result out.new ≡ write_of description count values.now wanted extended.now out.old }
 {
     write_in(
         Order::Point,
@@ -205,7 +205,7 @@ pub fn write_columns(
     extended: &[u8],
     out: &mut [u8],
 ) -> Written
-    ensures { writing result out.new ≡ writeColumnsOf description count values.now wanted extended.now out.old }
+    ensures { writing result out.new ≡ write_columns_of description count values.now wanted extended.now out.old }
 {
     write_in(
         Order::Column,

@@ -11,7 +11,7 @@ use Rattle.descriptions.specs.EncodedLaws.{writes-description}
 use Rattle.points.specs.Laws.{writes-point}
 use Rattle.channels.specs.Descriptors.{stored}
 use Rattle.channels.specs.declared.Format.TheVariants.{Full}
-use Rattle.records.specs.Record.{opening, extension, fullRecord, openingByte, encodeExtended, encode, ValidExtended, Valid}
+use Rattle.records.specs.Record.{opening, extension, full_record, opening_byte, encode_extended, encode, ValidExtended, Valid}
 
 -- ---- Extended data
 
@@ -19,8 +19,8 @@ bytes_of : Option (List ℕ) → List ℕ
 bytes_of none = []
 bytes_of (some bytes) = bytes
 
-writes-extension : (t : Bool) → Writes (extension t) encodeExtended (λ e. (bit 8 (openingByte e) ≡ t) × ValidExtended e)
-unfolding extension map bytes_of openingByte ValidExtended encodeExtended
+writes-extension : (t : Bool) → Writes (extension t) encode_extended (λ e. (bit 8 (opening_byte e) ≡ t) × ValidExtended e)
+unfolding extension map bytes_of opening_byte ValidExtended encode_extended
 writes-extension true =
     writes_as
     (writes_line (λ e. length (bytes_of e)) (writes-number 2) (λ n h. writes-map (writes-free n) some bytes_of (λ l g. refl)) (λ n e h q. q.0.0))
@@ -28,51 +28,51 @@ writes-extension true =
     from
   where
     to : (e : Option (List ℕ)) → (length (bytes_of e) < 256 ^ 2) × (((length (bytes_of e) ≡ length (bytes_of e)) × Bytes (bytes_of e)) × (some (bytes_of e) ≡ e))
-        → ((bit 8 (openingByte e) ≡ true) × ValidExtended e) × (digits 2 (length (bytes_of e)) ++ bytes_of e ≡ encodeExtended e)
+        → ((bit 8 (opening_byte e) ≡ true) × ValidExtended e) × (digits 2 (length (bytes_of e)) ++ bytes_of e ≡ encode_extended e)
     to none h = impossible (cc h.1.1)
     to (some l) h = ((refl, (h.0, h.1.0.1)), refl)
 
-    from : (e : Option (List ℕ)) → (bit 8 (openingByte e) ≡ true) × ValidExtended e
+    from : (e : Option (List ℕ)) → (bit 8 (opening_byte e) ≡ true) × ValidExtended e
         → (length (bytes_of e) < 256 ^ 2) × (((length (bytes_of e) ≡ length (bytes_of e)) × Bytes (bytes_of e)) × (some (bytes_of e) ≡ e))
     from none h = impossible (cc h.0)
     from (some l) h = (h.1.0, ((refl, h.1.1), refl))
 writes-extension false = writes_as (writes-done none) to from
   where
-    to : (e : Option (List ℕ)) → none ≡ e → ((bit 8 (openingByte e) ≡ false) × ValidExtended e) × (◌≡◌ {A = List ℕ} [] (encodeExtended e))
+    to : (e : Option (List ℕ)) → none ≡ e → ((bit 8 (opening_byte e) ≡ false) × ValidExtended e) × (◌≡◌ {A = List ℕ} [] (encode_extended e))
     to none h = ((refl, tt), refl)
     to (some l) h = impossible (cc)
 
-    from : (e : Option (List ℕ)) → (bit 8 (openingByte e) ≡ false) × ValidExtended e → none ≡ e
+    from : (e : Option (List ℕ)) → (bit 8 (opening_byte e) ≡ false) × ValidExtended e → none ≡ e
     from none h = refl
     from (some l) h = impossible (cc h.0)
 
 -- ---- The record
 
-pub opening-is : (e : Option (List ℕ)) (b : ℕ) → opening.holds b ≡ true → bit 8 (openingByte e) ≡ bit 8 b → openingByte e ≡ b
-unfolding openingByte
+pub opening-is : (e : Option (List ℕ)) (b : ℕ) → opening.holds b ≡ true → bit 8 (opening_byte e) ≡ bit 8 b → opening_byte e ≡ b
+unfolding opening_byte
 opening-is e b h q = go (eqb b 0x00) (eqb b 0x80) refl refl e h q
   where
-    go : (s t : Bool) → eqb b 0x00 ≡ s → eqb b 0x80 ≡ t → (e : Option (List ℕ)) → (s || t) ≡ true → bit 8 (openingByte e) ≡ bit 8 b → openingByte e ≡ b
+    go : (s t : Bool) → eqb b 0x00 ≡ s → eqb b 0x80 ≡ t → (e : Option (List ℕ)) → (s || t) ≡ true → bit 8 (opening_byte e) ≡ bit 8 b → opening_byte e ≡ b
     go true t x y none h q = sym (eqb-true b 0x00 x)
     go true t x y (some l) h q = let z : b ≡ 0 = eqb-true b 0x00 x in impossible (cc (rw z at q))
     go false true x y none h q = let z : b ≡ 0x80 = eqb-true b 0x80 y in impossible (cc (rw z at q))
     go false true x y (some l) h q = sym (eqb-true b 0x80 y)
     go false false x y e h q = impossible (cc)
 
-pub opening-good : (e : Option (List ℕ)) → (openingByte e < 256) × (opening.holds (openingByte e) ≡ true)
-unfolding openingByte
+pub opening-good : (e : Option (List ℕ)) → (opening_byte e < 256) × (opening.holds (opening_byte e) ≡ true)
+unfolding opening_byte
 opening-good none = (omega arith, refl)
 opening-good (some l) = (omega arith, refl)
 
-pub writes-record : Writes fullRecord encode Valid
-unfolding fullRecord encode
+pub writes-record : Writes full_record encode Valid
+unfolding full_record encode
 writes-record =
     writes_as
     (writes_line (λ r. tt) (writes-literal _ _ tt) (λ u h.
     writes_line (λ r. tt) (writes-literal _ _ tt) (λ u h.
     writes_line (λ r. r.description) (writes-description Full) (λ d h.
     writes_line (λ r. tt) (writes-literal _ _ tt) (λ u h.
-    writes_line (λ r. openingByte r.extended) (writes_one opening) (λ b h.
+    writes_line (λ r. opening_byte r.extended) (writes_one opening) (λ b h.
     writes_line (λ r. length r.points) (writes-number 3) (λ n h.
     writes_line (λ r. r.points) (writes-times (writes-point 2 (stored d)) n) (λ points h.
     writes_line (λ r. r.extended) (writes-extension (bit 8 b)) (λ extended h.

@@ -2,7 +2,7 @@
 use Rattle.std.specs.Prelude.{◌≡◌}
 use Rattle.formats.specs.OneAnswer.{OneAnswer, named}
 use Rattle.formats.specs.declared.Failure.{Failure}
-use Rattle.refusals.specs.Table.{number_of, place_of, inCompact, refusalOf}
+use Rattle.refusals.specs.Table.{number_of, place_of, in_compact, refusal_of}
 use Rattle.refusals.specs.declared.Refusal.{Refusal}
 
 pub one_number : (refusal : Refusal) → OneAnswer (λ r. r ≡ number_of refusal)
@@ -11,8 +11,8 @@ one_number refusal = named
 pub one_place : (refusal : Refusal) → OneAnswer (λ r. r ≡ place_of refusal)
 one_place refusal = named
 
-pub one-in-compact : (refusal : Refusal) → OneAnswer (λ r. r ≡ inCompact refusal)
+pub one-in-compact : (refusal : Refusal) → OneAnswer (λ r. r ≡ in_compact refusal)
 one-in-compact refusal = named
 
-pub one-refusal : (failure : Failure) → OneAnswer (λ r. r ≡ refusalOf failure)
+pub one-refusal : (failure : Failure) → OneAnswer (λ r. r ≡ refusal_of failure)
 one-refusal failure = named

@@ -2,7 +2,7 @@
 use Rattle.std.specs.Prelude.{◌≡◌, refl, List, [], ◌∷◌, map, ℕ, zero, suc, ◌+◌, ◌-◌, ◌≤◌, ◌<◌, length, get_or}
 use Rattle.std.proofs.Common.{arith}
 use Rattle.formats.specs.declared.Failure.TheVariants.{Bad}
-use Rattle.refusals.specs.Table.{number_of, place_of, at_byte, named, refusalOf}
+use Rattle.refusals.specs.Table.{number_of, place_of, at_byte, named, refusal_of}
 use Rattle.refusals.specs.declared.Where.TheVariants.{At, Nowhere}
 use Rattle.refusals.specs.declared.Quantity.{Quantity}
 use Rattle.refusals.specs.declared.Refusal.{Refusal}
@@ -56,8 +56,8 @@ in_order (r ∷ l) k place zero d h q = (omega (arith, h.0.0), h.0.1)
 in_order (r ∷ l) k place (suc i) d h q = let x = in_order l (suc k) place i d h.1 (omega arith) in (omega (arith, x.0), x.1)
 
 -- a byte that a reader refuses with 2 to 9 is refused with that number at that place
-pub bad-refusal : (k place : ℕ) → 2 ≤ k → k ≤ 9 → (number_of (refusalOf (Bad k place)) ≡ k) × (place_of (refusalOf (Bad k place)) ≡ At place)
-unfolding refusalOf named InOrder
+pub bad-refusal : (k place : ℕ) → 2 ≤ k → k ≤ 9 → (number_of (refusal_of (Bad k place)) ≡ k) × (place_of (refusal_of (Bad k place)) ≡ At place)
+unfolding refusal_of named InOrder
 bad-refusal k place h q =
     let x = in_order (at_byte place) 2 place (k - 2) (LeftOver place) ((refl, refl), ((refl, refl), ((refl, refl), ((refl, refl), ((refl, refl), ((refl, refl), ((refl, refl), ((refl, refl), tt)))))))) (omega arith) in
     (omega (arith, x.0), x.1)

@@ -14,12 +14,12 @@ pub record Ranged : Type 0 where
 
 infix 20 ◌fitsIf◌
 abbrev pub ◌fitsIf◌ : Quantity → Bool → Ranged
-name fitsIf test = record { name = name; fits = test }
+name fits_if test = record { name = name; fits = test }
 
 -- the first that does not fit is refused by its name; where all fit, none is
-unfoldable pub firstMisfit : List Ranged → Judgement
-firstMisfit [] = Passed
-firstMisfit (number ∷ l) = or_else (require number.fits (OutOfRange number.name)) (firstMisfit l)
+unfoldable pub first_misfit : List Ranged → Judgement
+first_misfit [] = Passed
+first_misfit (number ∷ l) = or_else (require number.fits (OutOfRange number.name)) (first_misfit l)
 
 -- ---- What is claimed of it
 
@@ -30,5 +30,5 @@ AllFit = All (λ number. number.fits ≡ true)
 pub record FirstOutside (l : List Ranged) (name : Quantity) : Type 0 where
   pub earlier : List Ranged
   pub later : List Ranged
-  pub stands : l ≡ earlier ++ (name fitsIf false) ∷ later
+  pub stands : l ≡ earlier ++ (name fits_if false) ∷ later
   pub before : AllFit earlier

@@ -2,7 +2,7 @@
 use Rattle.std.specs.Prelude.{◌≡◌, refl, Bool, true, false, List, [], ◌∷◌}
 use Rattle.formats.specs.Bytes.{impossible}
 use Rattle.formats.specs.Writes.{All}
-use Rattle.refusals.specs.Table.{inCompact}
+use Rattle.refusals.specs.Table.{in_compact}
 use Rattle.refusals.specs.declared.Refusal.{Refusal}
 use Rattle.refusals.specs.declared.Judgement.{Judgement}
 use Rattle.refusals.specs.declared.Judgement.TheVariants.{Passed, Refused}
@@ -24,7 +24,7 @@ stages (stage ∷ l) = or_else stage (stages l)
 -- a stage that says whether something fits the compact format: 21 in place of 12
 unfoldable pub compactly : Judgement → Judgement
 compactly Passed = Passed
-compactly (Refused refusal) = Refused (inCompact refusal)
+compactly (Refused refusal) = Refused (in_compact refusal)
 
 -- ---- Laws
 

@@ -53,27 +53,27 @@ place_of Uncalibrated = Nowhere
 place_of (NotCompact quantity) = Nowhere
 
 -- how it is told of what has to fit the compact format: 21 in place of 12, and every other as it is (request L4)
-unfoldable pub inCompact : Refusal → Refusal
-inCompact Short = Short
-inCompact (Identifier place) = Identifier place
-inCompact (Version place) = Version place
-inCompact (XOrY place) = XOrY place
-inCompact (ReservedBit place) = ReservedBit place
-inCompact (ReservedByte place) = ReservedByte place
-inCompact (OpeningBits place) = OpeningBits place
-inCompact (Switch place) = Switch place
-inCompact (LeftOver place) = LeftOver place
-inCompact NoPoint = NoPoint
-inCompact Untidy = Untidy
-inCompact (OutOfRange quantity) = NotCompact quantity
-inCompact Amount = Amount
-inCompact ExtendedSize = ExtendedSize
-inCompact Room = Room
-inCompact Tag = Tag
-inCompact Length = Length
-inCompact Maximum = Maximum
-inCompact Uncalibrated = Uncalibrated
-inCompact (NotCompact quantity) = NotCompact quantity
+unfoldable pub in_compact : Refusal → Refusal
+in_compact Short = Short
+in_compact (Identifier place) = Identifier place
+in_compact (Version place) = Version place
+in_compact (XOrY place) = XOrY place
+in_compact (ReservedBit place) = ReservedBit place
+in_compact (ReservedByte place) = ReservedByte place
+in_compact (OpeningBits place) = OpeningBits place
+in_compact (Switch place) = Switch place
+in_compact (LeftOver place) = LeftOver place
+in_compact NoPoint = NoPoint
+in_compact Untidy = Untidy
+in_compact (OutOfRange quantity) = NotCompact quantity
+in_compact Amount = Amount
+in_compact ExtendedSize = ExtendedSize
+in_compact Room = Room
+in_compact Tag = Tag
+in_compact Length = Length
+in_compact Maximum = Maximum
+in_compact Uncalibrated = Uncalibrated
+in_compact (NotCompact quantity) = NotCompact quantity
 
 -- ---- A reader's failure
 
@@ -84,6 +84,6 @@ at_byte place = Identifier place ∷ Version place ∷ XOrY (At place) ∷ Reser
 unfoldable pub named : (number place : ℕ) → Refusal
 named number place = get_or (at_byte place) (number - 2) (LeftOver place)
 
-unfoldable pub refusalOf : Failure → Refusal
-refusalOf failure.Short = Short
-refusalOf (failure.Bad number place) = named number place
+unfoldable pub refusal_of : Failure → Refusal
+refusal_of failure.Short = Short
+refusal_of (failure.Bad number place) = named number place

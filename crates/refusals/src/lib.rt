@@ -1,6 +1,6 @@
 // The numbered refusals of document 01 and of the requests as one type: each with its number, and with its place where the paper names one.
 ghost use Rattle.std.specs.Prelude.{◌≡◌};
-ghost use Rattle.refusals.specs.Table.{number_of, place_of, inCompact, named, refusalOf};
+ghost use Rattle.refusals.specs.Table.{number_of, place_of, in_compact, named, refusal_of};
 
 use formats::Failure;
 
@@ -124,7 +124,7 @@ pub fn place(refusal: Refusal) -> Where
 
 // A refusal as it is told of what has to fit the compact format: 21 in place of 12 (request L4).
 pub fn in_compact(refusal: Refusal) -> Refusal
-    ensures { result ≡ inCompact refusal }
+    ensures { result ≡ in_compact refusal }
 {
     if let Refusal::OutOfRange { quantity } = refusal {
         return Refusal::NotCompact { quantity: quantity };
@@ -152,7 +152,7 @@ fn named(number: u8, place: usize) -> Refusal
 
 // The refusal that a reader's failure is.
 pub fn of(failure: Failure) -> Refusal
-    ensures { result ≡ refusalOf failure }
+    ensures { result ≡ refusal_of failure }
 {
     match failure {
         Failure::Short => Refusal::Short,

@@ -2,12 +2,12 @@
 use Rattle.std.specs.Prelude.{◌≡◌, refl, List, [], ◌++◌, ℕ, zero, suc, ◌+◌, ◌-◌, ◌≤◌, ◌<◌, length, take, drop}
 use Rattle.std.proofs.Common.{sym, ap, ◌∙◌, append-nil, arith, le-leb, length-drop, drop_of_length-le, length-take-le, get_or-take, drop-drop}
 use Rattle.std.proofs.lemmas.Bool.{lt-leb}
-use Rattle.formats.specs.Reader.{ok, readAt}
+use Rattle.formats.specs.Reader.{ok, read_at}
 use Rattle.formats.specs.Number.{number, digits, value, at-number, length_digits}
 use Rattle.formats.specs.Put.{puts, puts-is}
 use Rattle.formats.specs.Laid.{Room, Laid}
 use Rattle.formats.specs.Lent.{writing}
-use Rattle.stored_numbers.specs.Numbers.{number_at, putNumber}
+use Rattle.stored_numbers.specs.Numbers.{number_at, put_number}
 
 -- ---- Where the bytes are there, and where they are not
 
@@ -21,20 +21,20 @@ module _ (w : ℕ) (s : List ℕ) (at : ℕ) where
   number_cut h = rw (lt-leb (at + w) (length s) h)
 
   -- a number that is there is the one that is read
-  pub number_read : {n : ℕ} → at + w ≤ length s → n ≡ number_at w s at → readAt (number w) s at ≡ ok n (at + w)
+  pub number_read : {n : ℕ} → at + w ≤ length s → n ≡ number_at w s at → read_at (number w) s at ≡ ok n (at + w)
   number_read h e = rw (e, number-there h) (at-number w s at h)
 
   module _ (n : ℕ) where
-    pub put-there : at + w ≤ length s → putNumber w n s at ≡ writing (at + w) (puts s at (digits w n))
-    unfolding putNumber
+    pub put-there : at + w ≤ length s → put_number w n s at ≡ writing (at + w) (puts s at (digits w n))
+    unfolding put_number
     put-there h = rw (le-leb (at + w) (length s) h)
 
-    pub put-crowded : length s < at + w → putNumber w n s at ≡ writing at s
-    unfolding putNumber
+    pub put-crowded : length s < at + w → put_number w n s at ≡ writing at s
+    unfolding put_number
     put-crowded h = rw (lt-leb (at + w) (length s) h)
 
     -- where there is room its digits are laid
-    pub number-laid : {t : List ℕ} {end : ℕ} → Room s at (digits w n) → writing end t ≡ putNumber w n s at → Laid s at (digits w n) t end
+    pub number-laid : {t : List ℕ} {end : ℕ} → Room s at (digits w n) → writing end t ≡ put_number w n s at → Laid s at (digits w n) t end
     number-laid r e =
         let f = e ∙ put-there (omega (arith, r.enough, length_digits w n)) in
         record { place = ap (λ x. x.answer) f ∙ ap (λ k. at + k) (sym (length_digits w n)); bytes = ap (λ x. x.bytes) f }
@@ -58,12 +58,12 @@ module _ (w : ℕ) (s : List ℕ) (at : ℕ) (h : at + w ≤ length s) (size : �
   own-length : length own ≡ w
   own-length = length-take-le w (drop at s) (simp length-drop (omega arith))
 
-  pub part-read : {n : ℕ} → n ≡ number_at w (take (at + size - at) (drop at s)) 0 → readAt (number w) s at ≡ ok n (at + w)
+  pub part-read : {n : ℕ} → n ≡ number_at w (take (at + size - at) (drop at s)) 0 → read_at (number w) s at ≡ ok n (at + w)
   part-read e =
       number_read w s at h
       (rw cut at e ∙ number-there w own 0 (omega (arith, own-length)) ∙ value-cut w w (drop at s) (omega arith) ∙ sym (number-there w s at h))
 
-  pub part-laid : (n : ℕ) {t : List ℕ} {end : ℕ} → writing end t ≡ putNumber w n (take (at + size - at) (drop at s)) 0
+  pub part-laid : (n : ℕ) {t : List ℕ} {end : ℕ} → writing end t ≡ put_number w n (take (at + size - at) (drop at s)) 0
       → Laid s at (digits w n) (take at s ++ (t ++ drop (at + size - at) (drop at s))) (at + size)
   part-laid n {t} e =
       let l = length_digits w n in

@@ -2,7 +2,7 @@
 ghost use Rattle.std.specs.Prelude.{◌≡◌};
 ghost use Rattle.formats.specs.Lent.{writing};
 ghost use Rattle.channels.specs.Channel.{width_of};
-ghost use Rattle.stored_numbers.specs.Numbers.{number_at, putNumber};
+ghost use Rattle.stored_numbers.specs.Numbers.{number_at, put_number};
 
 use channels::Format;
 
@@ -26,7 +26,7 @@ pub fn number_at(bytes: &[u8], at: usize, format: Format) -> u16
 // A stored number is put at a place, the high byte first, and where the next would go is answered.
 // Where there is no room for all of it nothing is put, and the place itself is answered.
 pub fn put_number(out: &mut [u8], at: usize, number: u16, format: Format) -> usize
-    ensures { writing result out.new ≡ putNumber (width_of format) number out.old at }
+    ensures { writing result out.new ≡ put_number (width_of format) number out.old at }
 {
     let width = channels::width(format);
     if out.len() < width {

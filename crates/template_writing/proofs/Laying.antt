@@ -12,16 +12,16 @@ use Rattle.formats.specs.Number.{digits, length_digits}
 use Rattle.formats.specs.Lent.{writing}
 use Rattle.channels.specs.declared.Description.{Description}
 use Rattle.channels.specs.declared.Format.TheVariants.{Compact}
-use Rattle.descriptions.specs.Description.{encodeDescription}
+use Rattle.descriptions.specs.Description.{encode_description}
 use Rattle.refusals.specs.Stages.{or_else, stages}
 use Rattle.refusals.specs.declared.Refusal.{Refusal}
 use Rattle.refusals.specs.declared.Judgement.{Judgement}
 use Rattle.refusals.specs.declared.Judgement.TheVariants as judgement
 use Rattle.description_judging.specs.Judging as judging
 use Rattle.template_writing.specs.declared.Written.TheVariants as answers
-use Rattle.templates.specs.Template.{field, fewest, shortest, encodeDescribed, encodeLimited, encode}
+use Rattle.templates.specs.Template.{field, fewest, shortest, encode_described, encode_limited, encode}
 use Rattle.templates.specs.EncodedLaws.{one_byte, two_bytes, three-bytes}
-use Rattle.template_writing.specs.Writing.{descriptionStage, maximumStage, putWhere, judgementOf, writeOf, describedBytes, templateBytes, writeFields}
+use Rattle.template_writing.specs.Writing.{description_stage, maximum_stage, put_where, judgement_of, write_of, described_bytes, template_bytes, write_fields}
 
 -- ---- A number
 
@@ -62,29 +62,29 @@ module _ {s : List ℕ} {at : ℕ} (tag : ℕ) (content : List ℕ) {size : ℕ}
 
 -- one that is wanted, and one that isn't
 module _ (described : Bool) (b : List ℕ) where
-  pub described-none : described ≡ false → describedBytes described b ≡ []
-  unfolding describedBytes
+  pub described-none : described ≡ false → described_bytes described b ≡ []
+  unfolding described_bytes
   described-none e = rw e
 
-  pub described-field : described ≡ true → describedBytes described b ≡ field 0x81 b
-  unfolding describedBytes
+  pub described-field : described ≡ true → described_bytes described b ≡ field 0x81 b
+  unfolding described_bytes
   described-field e = rw e
 
 module _ (limited : Bool) (n : ℕ) where
-  pub limited-none : limited ≡ false → encodeLimited limited n ≡ []
-  unfolding encodeLimited
+  pub limited-none : limited ≡ false → encode_limited limited n ≡ []
+  unfolding encode_limited
   limited-none e = rw e
 
-  pub limited-field : limited ≡ true → encodeLimited limited n ≡ field 0x82 (shortest n)
-  unfolding encodeLimited
+  pub limited-field : limited ≡ true → encode_limited limited n ≡ field 0x82 (shortest n)
+  unfolding encode_limited
   limited-field e = rw e
 
 -- ---- The whole
 
 pub template-length : (described : Bool) (b : List ℕ) (limited : Bool) (n : ℕ)
-    → length (templateBytes described b limited n) ≡ 2 + (length (describedBytes described b) + length (encodeLimited limited n))
-unfolding templateBytes
-template-length described b limited n = omega (arith, length-append (describedBytes described b) (encodeLimited limited n))
+    → length (template_bytes described b limited n) ≡ 2 + (length (described_bytes described b) + length (encode_limited limited n))
+unfolding template_bytes
+template-length described b limited n = omega (arith, length-append (described_bytes described b) (encode_limited limited n))
 
 -- bytes that were put at the start come first
 pub put_first : (s b : List ℕ) → length b ≤ length s → puts s 0 b ≡ b ++ drop (length b) s
@@ -98,15 +98,15 @@ module _ (described : Bool) (d : Description) (limited : Bool) (n : ℕ) (out : 
   last-stage judgement.Passed = refl
   last-stage (judgement.Refused refusal) = refl
 
-  pub unwanted-written : described ≡ false → (b : List ℕ) → writeFields false b limited n out ≡ writeOf described d limited n out
-  unfolding writeFields templateBytes describedBytes writeOf judgementOf descriptionStage encode encodeDescribed
-  unwanted-written e b = rw (e, last-stage (maximumStage limited n))
+  pub unwanted-written : described ≡ false → (b : List ℕ) → write_fields false b limited n out ≡ write_of described d limited n out
+  unfolding write_fields template_bytes described_bytes write_of judgement_of description_stage encode encode_described
+  unwanted-written e b = rw (e, last-stage (maximum_stage limited n))
 
   module _ (e : described ≡ true) where
-    pub passed-written : (b : List ℕ) → b ≡ encodeDescription 1 d → judging.judgementOf Compact d ≡ judgement.Passed → writeFields true b limited n out ≡ writeOf described d limited n out
-    unfolding writeFields templateBytes describedBytes writeOf judgementOf descriptionStage encode encodeDescribed
-    passed-written b q f = rw (e, q, f, last-stage (maximumStage limited n))
+    pub passed-written : (b : List ℕ) → b ≡ encode_description 1 d → judging.judgement_of Compact d ≡ judgement.Passed → write_fields true b limited n out ≡ write_of described d limited n out
+    unfolding write_fields template_bytes described_bytes write_of judgement_of description_stage encode encode_described
+    passed-written b q f = rw (e, q, f, last-stage (maximum_stage limited n))
 
-    pub refused-written : {refusal : Refusal} → judging.judgementOf Compact d ≡ judgement.Refused refusal → writing (answers.Refused refusal) out ≡ writeOf described d limited n out
-    unfolding writeOf judgementOf descriptionStage stages or_else putWhere
+    pub refused-written : {refusal : Refusal} → judging.judgement_of Compact d ≡ judgement.Refused refusal → writing (answers.Refused refusal) out ≡ write_of described d limited n out
+    unfolding write_of judgement_of description_stage stages or_else put_where
     refused-written f = rw (e, f)

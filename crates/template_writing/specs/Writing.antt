@@ -9,50 +9,50 @@ use Rattle.refusals.specs.declared.Judgement.TheVariants as judgement
 use Rattle.channels.specs.declared.Description.{Description}
 use Rattle.channels.specs.declared.Format.TheVariants.{Compact}
 use Rattle.description_judging.specs.Judging as judging
-use Rattle.templates.specs.Template.{field, encodeLimited, encode}
+use Rattle.templates.specs.Template.{field, encode_limited, encode}
 use Rattle.templates.specs.Reading.{saying}
 use Rattle.template_writing.specs.declared.Written.{Written}
 use Rattle.template_writing.specs.declared.Written.TheVariants.{Done, Refused}
 
 -- the description's own stages, where 81 is wanted
-unfoldable pub descriptionStage : (described : Bool) → Description → Judgement
-descriptionStage true d = judging.judgementOf Compact d
-descriptionStage false d = judgement.Passed
+unfoldable pub description_stage : (described : Bool) → Description → Judgement
+description_stage true d = judging.judgement_of Compact d
+description_stage false d = judgement.Passed
 
 -- a maximum that three bytes don't hold, where 82 is wanted
 unfoldable pub exceeds : (limited : Bool) (maximum : ℕ) → Bool
 exceeds limited n = limited && ltb 16777215 n
 
-abbrev pub maximumStage : (limited : Bool) (maximum : ℕ) → Judgement
-maximumStage limited n = require (not (exceeds limited n)) (OutOfRange quantity.Maximum)
+abbrev pub maximum_stage : (limited : Bool) (maximum : ℕ) → Judgement
+maximum_stage limited n = require (not (exceeds limited n)) (OutOfRange quantity.Maximum)
 
 -- bytes that there is room for come first, and the others are untouched
-unfoldable pub inRoom : (b out : List ℕ) → Writing Written
-inRoom b out = cond (leb (length b) (length out)) (writing (Done (length b)) (b ++ drop (length b) out)) (writing (Refused Room) out)
+unfoldable pub in_room : (b out : List ℕ) → Writing Written
+in_room b out = cond (leb (length b) (length out)) (writing (Done (length b)) (b ++ drop (length b) out)) (writing (Refused Room) out)
 
 -- a refusal leaves the bytes as they were
-unfoldable pub putWhere : Judgement → (b out : List ℕ) → Writing Written
-putWhere judgement.Passed b out = inRoom b out
-putWhere (judgement.Refused refusal) b out = writing (Refused refusal) out
+unfoldable pub put_where : Judgement → (b out : List ℕ) → Writing Written
+put_where judgement.Passed b out = in_room b out
+put_where (judgement.Refused refusal) b out = writing (Refused refusal) out
 
 -- the description, the maximum, and then the room
-unfoldable pub judgementOf : (described : Bool) (d : Description) (limited : Bool) (maximum : ℕ) → Judgement
-judgementOf described d limited maximum = stages (descriptionStage described d ∷ maximumStage limited maximum ∷ [])
+unfoldable pub judgement_of : (described : Bool) (d : Description) (limited : Bool) (maximum : ℕ) → Judgement
+judgement_of described d limited maximum = stages (description_stage described d ∷ maximum_stage limited maximum ∷ [])
 
-unfoldable pub writeOf : (described : Bool) (d : Description) (limited : Bool) (maximum : ℕ) (out : List ℕ) → Writing Written
-writeOf described d limited maximum out = putWhere (judgementOf described d limited maximum) (encode (saying described d limited maximum)) out
+unfoldable pub write_of : (described : Bool) (d : Description) (limited : Bool) (maximum : ℕ) (out : List ℕ) → Writing Written
+write_of described d limited maximum out = put_where (judgement_of described d limited maximum) (encode (saying described d limited maximum)) out
 
 -- ---- The parts, from the bytes of the description
 
 -- 81, where it is wanted
-unfoldable pub describedBytes : (described : Bool) (bytes : List ℕ) → List ℕ
-describedBytes true bytes = field 0x81 bytes
-describedBytes false bytes = []
+unfoldable pub described_bytes : (described : Bool) (bytes : List ℕ) → List ℕ
+described_bytes true bytes = field 0x81 bytes
+described_bytes false bytes = []
 
 -- the whole template
-unfoldable pub templateBytes : (described : Bool) (bytes : List ℕ) (limited : Bool) (maximum : ℕ) → List ℕ
-templateBytes described bytes limited maximum = field 0xB1 (describedBytes described bytes ++ encodeLimited limited maximum)
+unfoldable pub template_bytes : (described : Bool) (bytes : List ℕ) (limited : Bool) (maximum : ℕ) → List ℕ
+template_bytes described bytes limited maximum = field 0xB1 (described_bytes described bytes ++ encode_limited limited maximum)
 
 -- the maximum, and then the room
-unfoldable pub writeFields : (described : Bool) (bytes : List ℕ) (limited : Bool) (maximum : ℕ) (out : List ℕ) → Writing Written
-writeFields described bytes limited maximum out = putWhere (maximumStage limited maximum) (templateBytes described bytes limited maximum) out
+unfoldable pub write_fields : (described : Bool) (bytes : List ℕ) (limited : Bool) (maximum : ℕ) (out : List ℕ) → Writing Written
+write_fields described bytes limited maximum out = put_where (maximum_stage limited maximum) (template_bytes described bytes limited maximum) out

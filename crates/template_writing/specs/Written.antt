@@ -20,17 +20,17 @@ use Rattle.refusals.specs.declared.Judgement.TheVariants as judgement
 use Rattle.description_judging.specs.JudgingLaws.{passed-valid, valid-passed}
 use Rattle.templates.specs.declared.Template.{Template}
 use Rattle.template_writing.specs.declared.Written.TheVariants.{Done, Refused}
-use Rattle.templates.specs.Template.{encodeDescribed, encodeLimited, encode, Describes, Limits}
-use Rattle.templates.specs.Reading.{saying, accepted, templateOf}
+use Rattle.templates.specs.Template.{encode_described, encode_limited, encode, Describes, Limits}
+use Rattle.templates.specs.Reading.{saying, accepted, template_of}
 use Rattle.templates.specs.EncodedLaws.{read-written, written_read}
-use Rattle.template_writing.specs.Writing.{descriptionStage, maximumStage, exceeds, inRoom, putWhere, judgementOf, writeOf}
+use Rattle.template_writing.specs.Writing.{description_stage, maximum_stage, exceeds, in_room, put_where, judgement_of, write_of}
 
 -- the template that is written: zeros stand for what isn't wanted
 abbrev pub wanted : (described : Bool) (d : Description) (limited : Bool) (maximum : ℕ) → Template
 wanted described d limited maximum = saying described (cond described d (nothing Compact)) limited (cond limited maximum 0)
 
 encode-wanted : (described : Bool) (d : Description) (limited : Bool) (n : ℕ) → encode (saying described d limited n) ≡ encode (wanted described d limited n)
-unfolding encode encodeDescribed encodeLimited
+unfolding encode encode_described encode_limited
 encode-wanted true d true n = refl
 encode-wanted true d false n = refl
 encode-wanted false d true n = refl
@@ -38,8 +38,8 @@ encode-wanted false d false n = refl
 
 -- ---- What passes
 
-describes : (described : Bool) (d : Description) → descriptionStage described d ≡ judgement.Passed → length d.channels ≡ 16 → Describes described (cond described d (nothing Compact))
-unfolding descriptionStage
+describes : (described : Bool) (d : Description) → description_stage described d ≡ judgement.Passed → length d.channels ≡ 16 → Describes described (cond described d (nothing Compact))
+unfolding description_stage
 describes true d e h = passed-valid Compact d e h
 describes false d e h = refl
 
@@ -48,8 +48,8 @@ unfolding exceeds
 limits true n e = omega (arith, ltb-false 16777215 n e)
 limits false n e = refl
 
-describes-passed : (described : Bool) (d : Description) → Describes described d → descriptionStage described d ≡ judgement.Passed
-unfolding descriptionStage
+describes-passed : (described : Bool) (d : Description) → Describes described d → description_stage described d ≡ judgement.Passed
+unfolding description_stage
 describes-passed true d h = (valid-passed Compact d h).0
 describes-passed false d h = refl
 
@@ -65,60 +65,60 @@ module _ (described : Bool) (d : Description) (limited : Bool) (n : ℕ) (out : 
   b = encode (saying described d limited n)
 
   record Good (size : ℕ) (bytes : List ℕ) : Type 0 where
-    passes : judgementOf described d limited n ≡ judgement.Passed
+    passes : judgement_of described d limited n ≡ judgement.Passed
     length-is : size ≡ length b
     bytes-are : bytes ≡ b ++ drop (length b) out
 
-  by-room : {size : ℕ} {bytes : List ℕ} (t : Bool) → judgementOf described d limited n ≡ judgement.Passed
+  by-room : {size : ℕ} {bytes : List ℕ} (t : Bool) → judgement_of described d limited n ≡ judgement.Passed
       → cond t (writing (Done (length b)) (b ++ drop (length b) out)) (writing (Refused Room) out) ≡ writing (Done size) bytes → Good size bytes
   by-room true p e = let a = ap (λ w. w.answer) e in record { passes = p; length-is = cc; bytes-are = sym (ap (λ w. w.bytes) e) }
   by-room false p e = impossible (cc (ap (λ w. w.answer) e))
 
-  good : {size : ℕ} {bytes : List ℕ} → writeOf described d limited n out ≡ writing (Done size) bytes → Good size bytes
-  unfolding writeOf putWhere inRoom
-  good {size} {bytes} e = go (judgementOf described d limited n) refl e
+  good : {size : ℕ} {bytes : List ℕ} → write_of described d limited n out ≡ writing (Done size) bytes → Good size bytes
+  unfolding write_of put_where in_room
+  good {size} {bytes} e = go (judgement_of described d limited n) refl e
     where
-      go : (j : Judgement) → judgementOf described d limited n ≡ j → putWhere j b out ≡ writing (Done size) bytes → Good size bytes
+      go : (j : Judgement) → judgement_of described d limited n ≡ j → put_where j b out ≡ writing (Done size) bytes → Good size bytes
       go judgement.Passed p e = by-room (leb (length b) (length out)) p e
       go (judgement.Refused refusal) p e = impossible (cc (ap (λ w. w.answer) e))
 
   -- what was written is read back: the first bytes are the template, and the others are as they were
-  pub read_back : {size : ℕ} {bytes : List ℕ} → length d.channels ≡ 16 → writeOf described d limited n out ≡ writing (Done size) bytes
-      → (templateOf (take size bytes) ≡ accepted (wanted described d limited n)) × (bytes ≡ take size bytes ++ drop size out)
-  unfolding judgementOf
+  pub read_back : {size : ℕ} {bytes : List ℕ} → length d.channels ≡ 16 → write_of described d limited n out ≡ writing (Done size) bytes
+      → (template_of (take size bytes) ≡ accepted (wanted described d limited n)) × (bytes ≡ take size bytes ++ drop size out)
+  unfolding judgement_of
   read_back {size} {bytes} h e =
       let g = good e in
-      let s = stages-passed (descriptionStage described d ∷ maximumStage limited n ∷ []) g.passes in
+      let s = stages-passed (description_stage described d ∷ maximum_stage limited n ∷ []) g.passes in
       let t : take size bytes ≡ b = rw (g.length-is, g.bytes-are) (take-append_seam b (drop (length b) out)) in (
-        ap templateOf (t ∙ encode-wanted described d limited n)
+        ap template_of (t ∙ encode-wanted described d limited n)
             ∙ read-written (wanted described d limited n) (record { description = describes described d s.0 h; maximum = limits limited n (not-true _ (require-passed _ _ s.1.0)) }),
         g.bytes-are ∙ rw (t, g.length-is),
       )
 
   -- a refusal leaves the bytes as they were
-  pub unchanged : {refusal : Refusal} → (writeOf described d limited n out).answer ≡ Refused refusal → (writeOf described d limited n out).bytes ≡ out
-  unfolding writeOf putWhere inRoom
-  unchanged {refusal} e = go (judgementOf described d limited n) (leb (length b) (length out)) refl e
+  pub unchanged : {refusal : Refusal} → (write_of described d limited n out).answer ≡ Refused refusal → (write_of described d limited n out).bytes ≡ out
+  unfolding write_of put_where in_room
+  unchanged {refusal} e = go (judgement_of described d limited n) (leb (length b) (length out)) refl e
     where
-      go : (j : Judgement) (t : Bool) → leb (length b) (length out) ≡ t → (putWhere j b out).answer ≡ Refused refusal → (putWhere j b out).bytes ≡ out
+      go : (j : Judgement) (t : Bool) → leb (length b) (length out) ≡ t → (put_where j b out).answer ≡ Refused refusal → (put_where j b out).bytes ≡ out
       go judgement.Passed true q e = impossible (cc (rw q at e))
       go judgement.Passed false q e = rw q
       go (judgement.Refused other) t q e = refl
 
 -- what was read is written back, byte for byte
-pub write-back : (b : List ℕ) {t : Template} (out : List ℕ) → Bytes b → templateOf b ≡ accepted t → length b ≤ length out
-    → writeOf t.described t.description t.limited t.maximum out ≡ writing (Done (length b)) (b ++ drop (length b) out)
-unfolding writeOf judgementOf stages or_else require putWhere inRoom
+pub write-back : (b : List ℕ) {t : Template} (out : List ℕ) → Bytes b → template_of b ≡ accepted t → length b ≤ length out
+    → write_of t.described t.description t.limited t.maximum out ≡ writing (Done (length b)) (b ++ drop (length b) out)
+unfolding write_of judgement_of stages or_else require put_where in_room
 write-back b {t} out g e h =
     let w = written_read b g e in
     rw (describes-passed t.described t.description w.0.description, limits-passed t.limited t.maximum w.0.maximum, ← w.1, le-leb (length b) (length out) h)
 
 -- ---- What isn't wanted
 
-pub description-unwanted : (d e : Description) (limited : Bool) (n : ℕ) (out : List ℕ) → writeOf false d limited n out ≡ writeOf false e limited n out
-unfolding writeOf judgementOf descriptionStage encode encodeDescribed
+pub description-unwanted : (d e : Description) (limited : Bool) (n : ℕ) (out : List ℕ) → write_of false d limited n out ≡ write_of false e limited n out
+unfolding write_of judgement_of description_stage encode encode_described
 description-unwanted d e limited n out = refl
 
-pub maximum-unwanted : (described : Bool) (d : Description) (n m : ℕ) (out : List ℕ) → writeOf described d false n out ≡ writeOf described d false m out
-unfolding writeOf judgementOf exceeds encode encodeLimited
+pub maximum-unwanted : (described : Bool) (d : Description) (n m : ℕ) (out : List ℕ) → write_of described d false n out ≡ write_of described d false m out
+unfolding write_of judgement_of exceeds encode encode_limited
 maximum-unwanted described d n m out = refl

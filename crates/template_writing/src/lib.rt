@@ -2,8 +2,8 @@
 ghost use Rattle.std.specs.Prelude.{◌≡◌, [], ◌∷◌, ◌++◌, ◌≤◌, ◌<◌, length};
 ghost use Rattle.formats.specs.Laid.{Room, Laid};
 ghost use Rattle.formats.specs.Lent.{writing};
-ghost use Rattle.templates.specs.Template.{fewest, shortest, encodeLimited};
-ghost use Rattle.template_writing.specs.Writing.{exceeds, describedBytes, templateBytes, writeFields, writeOf};
+ghost use Rattle.templates.specs.Template.{fewest, shortest, encode_limited};
+ghost use Rattle.template_writing.specs.Writing.{exceeds, described_bytes, template_bytes, write_fields, write_of};
 
 use channels::{Description, Format};
 use refusals::{Quantity, Refusal};
@@ -38,7 +38,7 @@ fn fewest(number: u32) -> usize
 // How many bytes the field 81 has, from the bytes of the description.
 fn described_size(described: bool, bytes: &[u8]) -> usize
     requires { length bytes.now ≤ 114 }
-    ensures { (result ≡ length (describedBytes described bytes.now)) × (result ≤ 116) }
+    ensures { (result ≡ length (described_bytes described bytes.now)) × (result ≤ 116) }
 {
     if !described {
         return 0;
@@ -48,7 +48,7 @@ fn described_size(described: bool, bytes: &[u8]) -> usize
 
 // How many bytes the field 82 has.
 fn limited_size(limited: bool, maximum: u32) -> usize
-    ensures { (result ≡ length (encodeLimited limited maximum)) × (result ≤ 5) }
+    ensures { (result ≡ length (encode_limited limited maximum)) × (result ≤ 5) }
 {
     if !limited {
         return 0;
@@ -88,8 +88,8 @@ fn put_shortest(out: &mut [u8], at: usize, number: u32) -> usize
 
 // The field 82, where it is wanted.
 fn put_limited(out: &mut [u8], at: usize, limited: bool, maximum: u32) -> usize
-    requires { Room out.old at (encodeLimited limited maximum) }
-    ensures { Laid out.old at (encodeLimited limited maximum) out.new result }
+    requires { Room out.old at (encode_limited limited maximum) }
+    ensures { Laid out.old at (encode_limited limited maximum) out.new result }
 {
     if !limited {
         return at;
@@ -100,8 +100,8 @@ fn put_limited(out: &mut [u8], at: usize, limited: bool, maximum: u32) -> usize
 
 // The field 81, where it is wanted, from the bytes of the description.
 fn put_described(out: &mut [u8], at: usize, described: bool, bytes: &[u8]) -> usize
-    requires { (length bytes.now ≤ 114) × Room out.old at (describedBytes described bytes.now) }
-    ensures { Laid out.old at (describedBytes described bytes.now) out.new result }
+    requires { (length bytes.now ≤ 114) × Room out.old at (described_bytes described bytes.now) }
+    ensures { Laid out.old at (described_bytes described bytes.now) out.new result }
 {
     if !described {
         return at;
@@ -119,8 +119,8 @@ fn put_template(
     limited: bool,
     maximum: u32,
 ) -> usize
-    requires { (size < 128) × (length bytes.now ≤ 114) × Room out.old 0 (templateBytes described bytes.now limited maximum) × (size ≡ length (describedBytes described bytes.now ++ encodeLimited limited maximum)) }
-    ensures { Laid out.old 0 (templateBytes described bytes.now limited maximum) out.new result }
+    requires { (size < 128) × (length bytes.now ≤ 114) × Room out.old 0 (template_bytes described bytes.now limited maximum) × (size ≡ length (described_bytes described bytes.now ++ encode_limited limited maximum)) }
+    ensures { Laid out.old 0 (template_bytes described bytes.now limited maximum) out.new result }
 {
     let inside = put_head(out, 0, 0xB1, size);
     let at = put_described(out, inside, described, bytes);
@@ -136,7 +136,7 @@ fn write_fields(
     out: &mut [u8],
 ) -> Written
     requires { length bytes.now ≤ 114 }
-    ensures { writing result out.new ≡ writeFields described bytes.now limited maximum out.old }
+    ensures { writing result out.new ≡ write_fields described bytes.now limited maximum out.old }
 {
     if exceeds(limited, maximum) {
         return Written::Refused(Refusal::OutOfRange {
@@ -162,7 +162,7 @@ pub fn write(
     maximum: u32,
     out: &mut [u8],
 ) -> Written
-    ensures { writing result out.new ≡ writeOf described description limited maximum out.old }
+    ensures { writing result out.new ≡ write_of described description limited maximum out.old }
 {
     let mut room: [u8; 114] = [0; 114]; // two inclusion bytes, and seven for each of sixteen channels
     if !described {

@@ -10,7 +10,7 @@ use lib.ListN.{length, take, drop, get_or, length-drop, drop_of_length-le}
 use lib.Seq.{drop-cons, drop-drop, length-take-le}
 use borrow.Author.Tests.{leb-true, leb-false, ltb-true, ltb-false, le-leb, lt-leb, eq-eqb, ne_eqb}
 use Rattle.formats.specs.Bytes.{Bytes, impossible}
-use Rattle.formats.specs.Reader.{ok, short, bad, run, readAt}
+use Rattle.formats.specs.Reader.{ok, short, bad, run, read_at}
 use Rattle.formats.specs.Law.{refused as refused-byte}
 use Rattle.formats.specs.Compose.{at-start}
 use Rattle.formats.specs.Number.{value}
@@ -26,7 +26,7 @@ use Rattle.templates.specs.declared.Judged.{Judged}
 use Rattle.refusals.specs.declared.Refusal.{Refusal}
 use Rattle.refusals.specs.declared.Refusal.TheVariants.{Short, Tag, Length, Maximum, LeftOver}
 use Rattle.templates.specs.declared.End.TheVariants.{At, Missing}
-use Rattle.templates.specs.Reading.{saying, accepted, refused, require, withContent, isShortest, atEnd, limitedBy, limitedFrom, limitOf, filled, faultOf, filling, describedBy, contentOf, lengthAndContent, templateOf, end_of}
+use Rattle.templates.specs.Reading.{saying, accepted, refused, require, with_content, is_shortest, at_end, limited_by, limited_from, limit_of, filled, fault_of, filling, described_by, content_of, length_and_content, template_of, end_of}
 
 -- a number that one more byte may follow, of three
 pub room-for-more : (s : List ℕ) → Bytes s → (i : ℕ) → i < 3 → value i s < 65536
@@ -58,20 +58,20 @@ module _ (s : List ℕ) (at : ℕ) where
   end-within q = let f = ends q in (omega (arith, f.there, f.size, f.end), omega (arith, f.there, f.size, f.end))
 
   module _ (rest : List ℕ → List ℕ → Judged) where
-    pub content-there : {e : ℕ} → end_of s at ≡ At e → withContent (drop at s) rest ≡ rest (take (e - (at + 1)) (drop (at + 1) s)) (drop e s)
-    unfolding withContent
+    pub content-there : {e : ℕ} → end_of s at ≡ At e → with_content (drop at s) rest ≡ rest (take (e - (at + 1)) (drop (at + 1) s)) (drop e s)
+    unfolding with_content
     content-there {e} q =
         let f = ends q in
         let n : e - (at + 1) ≡ get_or s at 0 = omega (arith, f.end) in
         let h : get_or s at 0 ≤ length (drop (suc at) s) = simp length-drop (omega (arith, f.size)) in
         rw (n, ← f.end, add-one at, ← drop-drop (get_or s at 0) (suc at) s, drop-cons s at 0 f.there, le-leb (get_or s at 0) (length (drop (suc at) s)) h)
 
-    pub content-missing : end_of s at ≡ Missing → withContent (drop at s) rest ≡ refused Length
-    unfolding end_of withContent
+    pub content-missing : end_of s at ≡ Missing → with_content (drop at s) rest ≡ refused Length
+    unfolding end_of with_content
     content-missing q = go (leb (length s) at) (ltb (length s - (at + 1)) (get_or s at 0)) refl refl q
       where
         go : (a b : Bool) → leb (length s) at ≡ a → ltb (length s - (at + 1)) (get_or s at 0) ≡ b → cond a Missing (cond b Missing (At (at + 1 + get_or s at 0))) ≡ Missing
-            → withContent (drop at s) rest ≡ refused Length
+            → with_content (drop at s) rest ≡ refused Length
         go true b h g q = rw (drop_of_length-le s {i = at} (leb-true (length s) at h))
         go false true h g q =
             rw (drop-cons s at 0 (leb-false (length s) at h), lt-leb (get_or s at 0) (length (drop (suc at) s)) (simp length-drop (omega (arith, ltb-true (length s - (at + 1)) (get_or s at 0) g))))
@@ -81,67 +81,67 @@ module _ (s : List ℕ) (at : ℕ) where
 
 module _ (described : Bool) (d : Description) where
   module _ (content : List ℕ) where
-    pub limited-long : (behind : List ℕ) → isShortest content ≡ false → limitedBy described d content behind ≡ refused Maximum
-    unfolding limitedBy
+    pub limited-long : (behind : List ℕ) → is_shortest content ≡ false → limited_by described d content behind ≡ refused Maximum
+    unfolding limited_by
     limited-long behind e = rw e
 
-    module _ (s : List ℕ) (end : ℕ) (e : isShortest content ≡ true) where
-      pub limited-more : end < length s → limitedBy described d content (drop end s) ≡ refused Tag
-      unfolding limitedBy atEnd
+    module _ (s : List ℕ) (end : ℕ) (e : is_shortest content ≡ true) where
+      pub limited-more : end < length s → limited_by described d content (drop end s) ≡ refused Tag
+      unfolding limited_by at_end
       limited-more h = rw (e, drop-cons s end 0 h)
 
-      pub limited-last : length s ≤ end → limitedBy described d content (drop end s) ≡ accepted (saying described d true (value (length content) content))
-      unfolding limitedBy atEnd
+      pub limited-last : length s ≤ end → limited_by described d content (drop end s) ≡ accepted (saying described d true (value (length content) content))
+      unfolding limited_by at_end
       limited-last h = rw (e, drop_of_length-le s {i = end} h)
 
   module _ (s : List ℕ) (at : ℕ) where
-    pub limited-none : length s ≤ at → limitedFrom described d (drop at s) ≡ accepted (saying described d false 0)
-    unfolding limitedFrom
+    pub limited-none : length s ≤ at → limited_from described d (drop at s) ≡ accepted (saying described d false 0)
+    unfolding limited_from
     limited-none h = rw (drop_of_length-le s {i = at} h)
 
-    pub limited-other : at < length s → (get_or s at 0 ≡ 0x82 → ⊥) → limitedFrom described d (drop at s) ≡ refused Tag
-    unfolding limitedFrom
+    pub limited-other : at < length s → (get_or s at 0 ≡ 0x82 → ⊥) → limited_from described d (drop at s) ≡ refused Tag
+    unfolding limited_from
     limited-other h e = rw (drop-cons s at 0 h, ne_eqb (get_or s at 0) 0x82 e)
 
-    pub limited-field : at < length s → get_or s at 0 ≡ 0x82 → limitedFrom described d (drop at s) ≡ withContent (drop (at + 1) s) (limitedBy described d)
-    unfolding limitedFrom
+    pub limited-field : at < length s → get_or s at 0 ≡ 0x82 → limited_from described d (drop at s) ≡ with_content (drop (at + 1) s) (limited_by described d)
+    unfolding limited_from
     limited-field h e = rw (drop-cons s at 0 h, eq-eqb (get_or s at 0) 0x82 e, add-one at)
 
 -- ---- What stands behind the channels, by itself
 
 -- an answer that says of channels just what it is told
 abbrev Free : (Bool → Description → Judged) → Type 0
-Free f = (described : Bool) (d : Description) → filled described d (limitOf (f false (nothing Compact))) ≡ f described d
+Free f = (described : Bool) (d : Description) → filled described d (limit_of (f false (nothing Compact))) ≡ f described d
 
 free-require : (t : Bool) (refusal : Refusal) (f : Bool → Description → Judged) → Free f → Free (λ b d. require t refusal (f b d))
 free-require true refusal f h = h
 free-require false refusal f h = λ described d. refl
 
-free-end : (behind : List ℕ) (f : Bool → Description → Judged) → Free f → Free (λ b d. atEnd behind (f b d))
-unfolding atEnd
+free-end : (behind : List ℕ) (f : Bool → Description → Judged) → Free f → Free (λ b d. at_end behind (f b d))
+unfolding at_end
 free-end [] f h = h
 free-end (tag ∷ b) f h = λ described d. refl
 
-free-by : (content behind : List ℕ) → Free (λ b d. limitedBy b d content behind)
-unfolding limitedBy
+free-by : (content behind : List ℕ) → Free (λ b d. limited_by b d content behind)
+unfolding limited_by
 free-by content behind =
-    free-require (isShortest content) Maximum _
+    free-require (is_shortest content) Maximum _
     (free-end behind (λ b d. accepted (saying b d true (value (length content) content))) (λ described d. refl))
 
-free-content : (s : List ℕ) → Free (λ b d. withContent s (limitedBy b d))
-unfolding withContent
+free-content : (s : List ℕ) → Free (λ b d. with_content s (limited_by b d))
+unfolding with_content
 free-content [] = λ described d. refl
 free-content (n ∷ b) = free-require (leb n (length b)) Length _ (free-by (take n b) (drop n b))
 
-pub free-from : (s : List ℕ) → Free (λ b d. limitedFrom b d s)
-unfolding limitedFrom
+pub free-from : (s : List ℕ) → Free (λ b d. limited_from b d s)
+unfolding limited_from
 free-from [] = λ described d. refl
 free-from (tag ∷ b) = free-require (eqb tag 0x82) Tag _ (free-content b)
 
 -- ---- The description
 
 -- what the code that reads one was told, taken back to the answer
-module _ (content : List ℕ) (r : Described) (e : r ≡ described Compact (readAt (description Compact) content 0)) where
+module _ (content : List ℕ) (r : Described) (e : r ≡ described Compact (read_at (description Compact) content 0)) where
   whole : r ≡ described Compact (run (description Compact) content)
   whole = e ∙ ap (described Compact) (at-start (description Compact) content)
 
@@ -159,60 +159,60 @@ module _ (s : List ℕ) (end : ℕ) (low : 4 ≤ end) (high : end ≤ length s) 
   size : length part ≡ end - 4
   size = length-take-le (end - 4) (drop 4 s) (simp length-drop (omega arith))
 
-  pub described-whole : {d : Description} {n : ℕ} → run (description Compact) part ≡ ok d n → n ≡ end - 4 → describedBy part (drop end s) ≡ limitedFrom true d (drop end s)
-  unfolding describedBy filling
+  pub described-whole : {d : Description} {n : ℕ} → run (description Compact) part ≡ ok d n → n ≡ end - 4 → described_by part (drop end s) ≡ limited_from true d (drop end s)
+  unfolding described_by filling
   described-whole {d} {n} e q = rw (e, size, eq-eqb n (end - 4) q)
 
-  pub described-part : {d : Description} {n : ℕ} → run (description Compact) part ≡ ok d n → (n ≡ end - 4 → ⊥) → describedBy part (drop end s) ≡ refused Length
-  unfolding describedBy filling
+  pub described-part : {d : Description} {n : ℕ} → run (description Compact) part ≡ ok d n → (n ≡ end - 4 → ⊥) → described_by part (drop end s) ≡ refused Length
+  unfolding described_by filling
   described-part {d} {n} e q = rw (e, size, ne_eqb n (end - 4) q)
 
-  pub described-short : run (description Compact) part ≡ short → describedBy part (drop end s) ≡ refused Length
-  unfolding describedBy filling
+  pub described-short : run (description Compact) part ≡ short → described_by part (drop end s) ≡ refused Length
+  unfolding described_by filling
   described-short e = rw e
 
-  pub described-bad : {k p : ℕ} → run (description Compact) part ≡ bad k p → (describedBy part (drop end s) ≡ refused (faultOf k (4 + p))) × (4 + p < length s)
-  unfolding describedBy filling
+  pub described-bad : {k p : ℕ} → run (description Compact) part ≡ bad k p → (described_by part (drop end s) ≡ refused (fault_of k (4 + p))) × (4 + p < length s)
+  unfolding described_by filling
   described-bad e = (rw e, omega (arith, (refused-byte (description Compact) part e).within, size))
 
 -- ---- The content, and the whole
 
 module _ (s : List ℕ) where
-  pub content-none : length s ≤ 2 → contentOf (drop 2 s) ≡ limitedFrom false (nothing Compact) (drop 2 s)
-  unfolding contentOf
+  pub content-none : length s ≤ 2 → content_of (drop 2 s) ≡ limited_from false (nothing Compact) (drop 2 s)
+  unfolding content_of
   content-none h = rw (drop_of_length-le s {i = 2} h)
 
-  pub content-other : 2 < length s → (get_or s 2 0 ≡ 0x81 → ⊥) → contentOf (drop 2 s) ≡ limitedFrom false (nothing Compact) (drop 2 s)
-  unfolding contentOf
+  pub content-other : 2 < length s → (get_or s 2 0 ≡ 0x81 → ⊥) → content_of (drop 2 s) ≡ limited_from false (nothing Compact) (drop 2 s)
+  unfolding content_of
   content-other h e = rw (drop-cons s 2 0 h, ne_eqb (get_or s 2 0) 0x81 e)
 
-  pub content-field : 2 < length s → get_or s 2 0 ≡ 0x81 → contentOf (drop 2 s) ≡ withContent (drop 3 s) describedBy
-  unfolding contentOf
+  pub content-field : 2 < length s → get_or s 2 0 ≡ 0x81 → content_of (drop 2 s) ≡ with_content (drop 3 s) described_by
+  unfolding content_of
   content-field h e = rw (drop-cons s 2 0 h, eq-eqb (get_or s 2 0) 0x81 e)
 
-pub template-none : (s : List ℕ) → length s ≡ 0 → templateOf s ≡ refused Short
-unfolding templateOf
+pub template-none : (s : List ℕ) → length s ≡ 0 → template_of s ≡ refused Short
+unfolding template_of
 template-none [] h = refl
 template-none (x ∷ s) h = absurd (omega arith)
 
-pub template-other : (s : List ℕ) → 0 < length s → (get_or s 0 0 ≡ 0xB1 → ⊥) → templateOf s ≡ refused Tag
-unfolding templateOf
+pub template-other : (s : List ℕ) → 0 < length s → (get_or s 0 0 ≡ 0xB1 → ⊥) → template_of s ≡ refused Tag
+unfolding template_of
 template-other [] h e = absurd (omega arith)
 template-other (x ∷ s) h e = rw (ne_eqb x 0xB1 e)
 
-pub template-tag : (s : List ℕ) → length s ≡ 1 → get_or s 0 0 ≡ 0xB1 → templateOf s ≡ refused Short
-unfolding templateOf lengthAndContent
+pub template-tag : (s : List ℕ) → length s ≡ 1 → get_or s 0 0 ≡ 0xB1 → template_of s ≡ refused Short
+unfolding template_of length_and_content
 template-tag [] h e = absurd (omega arith)
 template-tag (x ∷ []) h e = rw (eq-eqb x 0xB1 e)
 template-tag (x ∷ y ∷ s) h e = absurd (omega arith)
 
 -- with its tag and its length byte
-pub template-field : (s : List ℕ) → 1 < length s → get_or s 0 0 ≡ 0xB1 → templateOf s
+pub template-field : (s : List ℕ) → 1 < length s → get_or s 0 0 ≡ 0xB1 → template_of s
     ≡ require (ltb (get_or s 1 0) 128) Length
     (require (leb (get_or s 1 0) (length s - 2)) Short
     (require (leb (length s - 2) (get_or s 1 0)) (LeftOver (2 + get_or s 1 0))
-    (contentOf (drop 2 s))))
-unfolding templateOf lengthAndContent
+    (content_of (drop 2 s))))
+unfolding template_of length_and_content
 template-field [] h e = absurd (omega arith)
 template-field (x ∷ []) h e = absurd (omega arith)
 template-field (x ∷ n ∷ c) h e = let q : suc (suc (length c)) - 2 ≡ length c = omega arith in rw (eq-eqb x 0xB1 e, q)

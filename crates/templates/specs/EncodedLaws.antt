@@ -13,7 +13,7 @@ use Rattle.formats.specs.Reader.{Answer, ok, short, bad, run}
 use Rattle.formats.specs.Number.{number, digits, value, length_digits, number_ok, writes-number}
 use Rattle.channels.specs.declared.Description.{Description}
 use Rattle.channels.specs.declared.Format.TheVariants.{Compact}
-use Rattle.descriptions.specs.Description.{description, encodeDescription}
+use Rattle.descriptions.specs.Description.{description, encode_description}
 use Rattle.descriptions.specs.EncodedLaws.{writes-description}
 use Rattle.descriptions.specs.SizeLaws.{description-size}
 use Rattle.descriptions.specs.Read.{nothing}
@@ -22,8 +22,8 @@ use Rattle.refusals.specs.declared.Refusal.{Refusal}
 use Rattle.refusals.specs.declared.Refusal.TheVariants.{Short, Tag, Length, Maximum, LeftOver}
 use Rattle.refusals.specs.declared.Judgement.TheVariants.{Passed}
 use Rattle.templates.specs.declared.Judged.{Judged}
-use Rattle.templates.specs.Template.{field, fewest, shortest, encodeDescribed, encodeLimited, encode, Describes, Limits, ValidTemplate, IsTemplate}
-use Rattle.templates.specs.Reading.{saying, accepted, refused, require, withContent, isShortest, atEnd, limitedBy, limitedFrom, filling, describedBy, contentOf, lengthAndContent, templateOf}
+use Rattle.templates.specs.Template.{field, fewest, shortest, encode_described, encode_limited, encode, Describes, Limits, ValidTemplate, IsTemplate}
+use Rattle.templates.specs.Reading.{saying, accepted, refused, require, with_content, is_shortest, at_end, limited_by, limited_from, filling, described_by, content_of, length_and_content, template_of}
 
 -- ---- The number of points
 
@@ -51,17 +51,17 @@ unfolding fewest
 three-bytes n h = rw (le-ltb n 256 (omega arith), le-ltb n 65536 h)
 
 record Shortest (n : ℕ) (b : List ℕ) : Type 0 where
-  few : isShortest b ≡ true
+  few : is_shortest b ≡ true
   same : value (length b) b ≡ n
   small : length b ≤ 3
 
 module _ (n : ℕ) where
-  in-digits : (k : ℕ) → fewest n ≡ k → n < 256 ^ k → k ≤ 3 → isShortest (digits k n) ≡ true → Shortest n (shortest n)
+  in-digits : (k : ℕ) → fewest n ≡ k → n < 256 ^ k → k ≤ 3 → is_shortest (digits k n) ≡ true → Shortest n (shortest n)
   unfolding shortest
   in-digits k q h s e = rw q (record { few = e; same = rw (length_digits k n) (value-digits k n h); small = rw (length_digits k n) s })
 
   shortest-is : n < 16777216 → Shortest n (shortest n)
-  unfolding isShortest digits
+  unfolding is_shortest digits
   shortest-is h =
       by_cases
       (dec_lt n 256)
@@ -87,12 +87,12 @@ second true true r e = refl
 second true false r e = impossible (cc)
 second false q r e = impossible (cc)
 
-pub at-most-three : (b : List ℕ) → isShortest b ≡ true → length b ≤ 3
-unfolding isShortest
+pub at-most-three : (b : List ℕ) → is_shortest b ≡ true → length b ≤ 3
+unfolding is_shortest
 at-most-three b e = leb-true (length b) 3 (second (leb 1 (length b)) (leb (length b) 3) _ e)
 
-shortest-only : (b : List ℕ) → Bytes b → isShortest b ≡ true → (value (length b) b < 16777216) × (b ≡ shortest (value (length b) b))
-unfolding isShortest value
+shortest-only : (b : List ℕ) → Bytes b → is_shortest b ≡ true → (value (length b) b < 16777216) × (b ≡ shortest (value (length b) b))
+unfolding is_shortest value
 shortest-only [] g e = impossible (cc)
 shortest-only (x ∷ []) g e = let h = g 0 in (omega arith, of-digits (x ∷ []) g (one_byte _ (omega arith)))
 shortest-only (x ∷ y ∷ []) g e =
@@ -110,49 +110,49 @@ shortest-only (x ∷ y ∷ z ∷ w ∷ b) g e = absurd (omega (arith, at-most-th
 
 -- ---- Reading what was written
 
-content-there : (b behind : List ℕ) (rest : List ℕ → List ℕ → Judged) → withContent (length b ∷ b ++ behind) rest ≡ rest b behind
-unfolding withContent
+content-there : (b behind : List ℕ) (rest : List ℕ → List ℕ → Judged) → with_content (length b ∷ b ++ behind) rest ≡ rest b behind
+unfolding with_content
 content-there b behind rest = rw (le-leb (length b) (length (b ++ behind)) (omega (arith, length-append b behind)), take-append_seam b behind, drop-append_seam b behind)
 
 module _ (described : Bool) (d : Description) where
-  read-limited : (limited : Bool) (n : ℕ) → Limits limited n → limitedFrom described d (encodeLimited limited n) ≡ accepted (saying described d limited n)
-  unfolding limitedFrom limitedBy encodeLimited atEnd
+  read-limited : (limited : Bool) (n : ℕ) → Limits limited n → limited_from described d (encode_limited limited n) ≡ accepted (saying described d limited n)
+  unfolding limited_from limited_by encode_limited at_end
   read-limited true n h =
       let s = shortest-is n h in
-      rw append-nil at (content-there (shortest n) [] (limitedBy described d)) ∙ rw (s.few, s.same)
+      rw append-nil at (content-there (shortest n) [] (limited_by described d)) ∙ rw (s.few, s.same)
   read-limited false n h = rw h
 
 read-described : (described : Bool) (d : Description) (limited : Bool) (n : ℕ) → Describes described d → Limits limited n
-    → contentOf (encodeDescribed described d ++ encodeLimited limited n) ≡ accepted (saying described d limited n)
-unfolding contentOf encodeDescribed encodeLimited describedBy filling
+    → content_of (encode_described described d ++ encode_limited limited n) ≡ accepted (saying described d limited n)
+unfolding content_of encode_described encode_limited described_by filling
 read-described true d limited n h q =
-    content-there (encodeDescription 1 d) (encodeLimited limited n) describedBy
-    ∙ rw ((writes-description Compact).reads d h, eq-eqb (length (encodeDescription 1 d)) (length (encodeDescription 1 d)) refl) (read-limited true d limited n q)
+    content-there (encode_description 1 d) (encode_limited limited n) described_by
+    ∙ rw ((writes-description Compact).reads d h, eq-eqb (length (encode_description 1 d)) (length (encode_description 1 d)) refl) (read-limited true d limited n q)
 read-described false d true n h q = rw h (read-limited false (nothing Compact) true n q)
 read-described false d false n h q = rw h (read-limited false (nothing Compact) false n q)
 
 -- the content is below 128 bytes
-limited-size : (limited : Bool) (n : ℕ) → Limits limited n → length (encodeLimited limited n) ≤ 5
-unfolding encodeLimited
+limited-size : (limited : Bool) (n : ℕ) → Limits limited n → length (encode_limited limited n) ≤ 5
+unfolding encode_limited
 limited-size true n h = omega (arith, (shortest-is n h).small)
 limited-size false n h = omega arith
 
-pub described-size : (described : Bool) (d : Description) → length (encodeDescribed described d) ≤ 116
-unfolding encodeDescribed
+pub described-size : (described : Bool) (d : Description) → length (encode_described described d) ≤ 116
+unfolding encode_described
 described-size true d = omega (arith, description-size 1 d)
 described-size false d = omega arith
 
 -- a content that is short enough is all that is looked at
-outer : (c : List ℕ) → length c < 128 → templateOf (field 0xB1 c) ≡ contentOf c
-unfolding templateOf lengthAndContent
+outer : (c : List ℕ) → length c < 128 → template_of (field 0xB1 c) ≡ content_of c
+unfolding template_of length_and_content
 outer c h = rw (lt-ltb (length c) 128 h, le-leb (length c) (length c) (omega arith))
 
 -- what was written is read
-pub read-written : (t : Template) → ValidTemplate t → templateOf (encode t) ≡ accepted t
+pub read-written : (t : Template) → ValidTemplate t → template_of (encode t) ≡ accepted t
 unfolding encode
 read-written t v =
-    let a = encodeDescribed t.described t.description in
-    let b = encodeLimited t.limited t.maximum in
+    let a = encode_described t.described t.description in
+    let b = encode_limited t.limited t.maximum in
     outer (a ++ b) (omega (arith, length-append a b, described-size t.described t.description, limited-size t.limited t.maximum v.maximum))
     ∙ read-described t.described t.description t.limited t.maximum v.description v.maximum
 
@@ -172,8 +172,8 @@ record Held (b : List ℕ) (rest : List ℕ → List ℕ → Judged) (t : Templa
   split : b ≡ length content ∷ content ++ behind
   read : rest content behind ≡ accepted t
 
-held : (b : List ℕ) (rest : List ℕ → List ℕ → Judged) {t : Template} → withContent b rest ≡ accepted t → Held b rest t
-unfolding withContent
+held : (b : List ℕ) (rest : List ℕ → List ℕ → Judged) {t : Template} → with_content b rest ≡ accepted t → Held b rest t
+unfolding with_content
 held [] rest e = refused-not e
 held (n ∷ b) rest e =
     let r = require-holds (leb n (length b)) Length e in
@@ -189,21 +189,21 @@ held (n ∷ b) rest e =
 record Rest (described : Bool) (d : Description) (b : List ℕ) (t : Template) : Type 0 where
   channels : saying described d t.limited t.maximum ≡ t
   maximum : Limits t.limited t.maximum
-  written : b ≡ encodeLimited t.limited t.maximum
+  written : b ≡ encode_limited t.limited t.maximum
 
 module _ (described : Bool) (d : Description) where
-  end-only : (behind : List ℕ) {u t : Template} → atEnd behind (accepted u) ≡ accepted t → (behind ≡ []) × (u ≡ t)
-  unfolding atEnd
+  end-only : (behind : List ℕ) {u t : Template} → at_end behind (accepted u) ≡ accepted t → (behind ≡ []) × (u ≡ t)
+  unfolding at_end
   end-only [] e = (refl, ap (λ j. j.template) e)
   end-only (x ∷ b) e = refused-not e
 
-  limited-only : (b : List ℕ) {t : Template} → Bytes b → limitedFrom described d b ≡ accepted t → Rest described d b t
-  unfolding limitedFrom limitedBy encodeLimited
+  limited-only : (b : List ℕ) {t : Template} → Bytes b → limited_from described d b ≡ accepted t → Rest described d b t
+  unfolding limited_from limited_by encode_limited
   limited-only [] g e = let q = ap (λ j. j.template) e in rw (← q) (record { channels = refl; maximum = refl; written = refl })
   limited-only (x ∷ b) g e =
       let r = require-holds (eqb x 0x82) Tag e in
-      let l = held b (limitedBy described d) r.1 in
-      let s = require-holds (isShortest l.content) Maximum l.read in
+      let l = held b (limited_by described d) r.1 in
+      let s = require-holds (is_shortest l.content) Maximum l.read in
       let f = end-only l.behind s.1 in
       let o = shortest-only l.content (l.bytes (λ i. g (suc i))).0 s.0 in
       rw (← f.1) (record {
@@ -215,14 +215,14 @@ module _ (described : Bool) (d : Description) where
 -- the content, and the whole
 record Content (b : List ℕ) (t : Template) : Type 0 where
   valid : ValidTemplate t
-  written : b ≡ encodeDescribed t.described t.description ++ encodeLimited t.limited t.maximum
+  written : b ≡ encode_described t.described t.description ++ encode_limited t.limited t.maximum
 
 undescribed : (b : List ℕ) {t : Template} → Rest false (nothing Compact) b t → Content b t
-unfolding encodeDescribed
+unfolding encode_described
 undescribed b {t} r = rw (← r.channels) (record { valid = record { description = refl; maximum = r.maximum }; written = r.written })
 
-content-only : (b : List ℕ) {t : Template} → Bytes b → contentOf b ≡ accepted t → Content b t
-unfolding contentOf describedBy filling encodeDescribed
+content-only : (b : List ℕ) {t : Template} → Bytes b → content_of b ≡ accepted t → Content b t
+unfolding content_of described_by filling encode_described
 content-only [] g e = undescribed [] (limited-only false (nothing Compact) [] g e)
 content-only (x ∷ b) {t} g e = go (eqb x 0x81) refl e
   where
@@ -239,13 +239,13 @@ content-only (x ∷ b) {t} g e = go (eqb x 0x81) refl e
     filled content behind short q f h e = refused-not e
     filled content behind (bad k p) q f h e = refused-not e
 
-    go : (s : Bool) → eqb x 0x81 ≡ s → cond s (withContent b describedBy) (limitedFrom false (nothing Compact) (x ∷ b)) ≡ accepted t → Content (x ∷ b) t
-    go true q e = let l = held b describedBy e in rw (eqb-true x 0x81 q, l.split) (filled l.content l.behind (run (description Compact) l.content) refl (l.bytes (λ i. g (suc i))).0 (l.bytes (λ i. g (suc i))).1 l.read)
+    go : (s : Bool) → eqb x 0x81 ≡ s → cond s (with_content b described_by) (limited_from false (nothing Compact) (x ∷ b)) ≡ accepted t → Content (x ∷ b) t
+    go true q e = let l = held b described_by e in rw (eqb-true x 0x81 q, l.split) (filled l.content l.behind (run (description Compact) l.content) refl (l.bytes (λ i. g (suc i))).0 (l.bytes (λ i. g (suc i))).1 l.read)
     go false q e = undescribed (x ∷ b) (limited-only false (nothing Compact) (x ∷ b) g e)
 
 -- what was read is what writing its template writes
-pub written_read : (b : List ℕ) {t : Template} → Bytes b → templateOf b ≡ accepted t → ValidTemplate t × (b ≡ encode t)
-unfolding templateOf lengthAndContent encode
+pub written_read : (b : List ℕ) {t : Template} → Bytes b → template_of b ≡ accepted t → ValidTemplate t × (b ≡ encode t)
+unfolding template_of length_and_content encode
 written_read [] g e = refused-not e
 written_read (x ∷ []) g e = refused-not (require-holds (eqb x 0xB1) Tag e).1
 written_read (x ∷ n ∷ c) g e =
@@ -260,17 +260,17 @@ written_read (x ∷ n ∷ c) g e =
 -- ---- What follows
 
 -- bytes are accepted if and only if they are a template
-pub accepted-iff : (b : List ℕ) → Bytes b → ((templateOf b).verdict ≡ Passed) ↔ IsTemplate b
-accepted-iff b g = (to, λ t. ap (λ j. j.verdict) (ap templateOf t.written ∙ read-written t.template t.valid))
+pub accepted-iff : (b : List ℕ) → Bytes b → ((template_of b).verdict ≡ Passed) ↔ IsTemplate b
+accepted-iff b g = (to, λ t. ap (λ j. j.verdict) (ap template_of t.written ∙ read-written t.template t.valid))
   where
-    to : (templateOf b).verdict ≡ Passed → IsTemplate b
+    to : (template_of b).verdict ≡ Passed → IsTemplate b
     to e =
-        let q : templateOf b ≡ accepted (templateOf b).template = ap (λ v. record { verdict = v; template = (templateOf b).template }) e in
+        let q : template_of b ≡ accepted (template_of b).template = ap (λ v. record { verdict = v; template = (template_of b).template }) e in
         let w = written_read b g q in
-        record { template = (templateOf b).template; valid = w.0; written = w.1 }
+        record { template = (template_of b).template; valid = w.0; written = w.1 }
 
 -- no bytes have two readings
 pub one-reading : {b : List ℕ} (t u : IsTemplate b) → t.template ≡ u.template
 one-reading {b} t u =
     ap (λ j. j.template)
-    (sym (read-written t.template t.valid) ∙ ap templateOf (sym t.written ∙ u.written) ∙ read-written u.template u.valid)
+    (sym (read-written t.template t.valid) ∙ ap template_of (sym t.written ∙ u.written) ∙ read-written u.template u.valid)

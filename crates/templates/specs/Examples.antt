@@ -7,9 +7,9 @@ use Rattle.channels.specs.Channel.{signed_of}
 use Rattle.channels.specs.Stored.{offset, value_of}
 use Rattle.channels.specs.declared.Descriptor.{Descriptor}
 use Rattle.channels.specs.declared.Description.{Description}
-use Rattle.channels.specs.Descriptors.{noAttribute, absent}
+use Rattle.channels.specs.Descriptors.{no_attribute, absent}
 use Rattle.channels.specs.declared.Format.TheVariants.{Compact}
-use Rattle.descriptions.specs.Description.{attribute, descriptor, includes, channelOf, description}
+use Rattle.descriptions.specs.Description.{attribute, descriptor, includes, channel_of, description}
 use Rattle.descriptions.specs.Read.{nothing}
 use Rattle.refusals.specs.declared.Refusal.TheVariants.{Short, Tag, Length, Maximum, XOrY, ReservedBit, LeftOver}
 use Rattle.refusals.specs.declared.Judgement.{Judgement}
@@ -17,17 +17,17 @@ use Rattle.refusals.specs.declared.Judgement.TheVariants.{Passed, Refused}
 use Rattle.refusals.specs.Table.{number_of}
 use Rattle.refusals.specs.declared.Where.TheVariants.{At}
 use Rattle.templates.specs.declared.Judged.{Judged}
-use Rattle.templates.specs.Reading.{saying, accepted, refused, withContent, isShortest, atEnd, limitedBy, limitedFrom, filling, describedBy, contentOf, lengthAndContent, templateOf}
+use Rattle.templates.specs.Reading.{saying, accepted, refused, with_content, is_shortest, at_end, limited_by, limited_from, filling, described_by, content_of, length_and_content, template_of}
 
 -- a channel of which nothing is said but that it is included, and DT scaled by 100 and constant
 abbrev plain : Descriptor
 plain = record {
   included = true;
-  scaling = noAttribute;
-  minimum = noAttribute;
-  maximum = noAttribute;
-  mean = noAttribute;
-  deviation = noAttribute;
+  scaling = no_attribute;
+  minimum = no_attribute;
+  maximum = no_attribute;
+  mean = no_attribute;
+  deviation = no_attribute;
   constant = false;
   detrended = false;
 }
@@ -36,10 +36,10 @@ abbrev steady : Descriptor
 steady = record {
   included = true;
   scaling = record { given = true; number = pos 0xB480 };
-  minimum = noAttribute;
-  maximum = noAttribute;
-  mean = noAttribute;
-  deviation = noAttribute;
+  minimum = no_attribute;
+  maximum = no_attribute;
+  mean = no_attribute;
+  deviation = no_attribute;
   constant = true;
   detrended = false;
 }
@@ -86,9 +86,9 @@ table =
 
 -- an example as reading finds it
 abbrev found : Example → Example
-found e = example e.bytes (numbered (templateOf e.bytes).verdict) (templateOf e.bytes)
+found e = example e.bytes (numbered (template_of e.bytes).verdict) (template_of e.bytes)
 
 pub examples : map found table ≡ table
-unfolding run next bind reader.map each one number value_of offset signed_of attribute descriptor includes channelOf description nothing
-    withContent isShortest atEnd limitedBy limitedFrom filling describedBy contentOf lengthAndContent templateOf
+unfolding run next bind reader.map each one number value_of offset signed_of attribute descriptor includes channel_of description nothing
+    with_content is_shortest at_end limited_by limited_from filling described_by content_of length_and_content template_of
 examples = refl

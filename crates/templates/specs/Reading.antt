@@ -39,64 +39,64 @@ require false refusal rest = refused refusal
 
 -- A length byte, the content that it announces, and what stands behind: both are handed on.
 -- What is left is always below 128, so a length that isn't is larger than it.
-unfoldable pub withContent : List ℕ → (List ℕ → List ℕ → Judged) → Judged
-withContent [] rest = refused Length
-withContent (n ∷ b) rest = require (leb n (length b)) Length (rest (take n b) (drop n b))
+unfoldable pub with_content : List ℕ → (List ℕ → List ℕ → Judged) → Judged
+with_content [] rest = refused Length
+with_content (n ∷ b) rest = require (leb n (length b)) Length (rest (take n b) (drop n b))
 
 -- one to three bytes, and the first of several isn't zero
-unfoldable pub isShortest : List ℕ → Bool
-isShortest b = leb 1 (length b) && leb (length b) 3 && (eqb (length b) 1 || not (eqb (get_or b 0 0) 0))
+unfoldable pub is_shortest : List ℕ → Bool
+is_shortest b = leb 1 (length b) && leb (length b) 3 && (eqb (length b) 1 || not (eqb (get_or b 0 0) 0))
 
 -- nothing may follow 82
-unfoldable pub atEnd : List ℕ → Judged → Judged
-atEnd [] rest = rest
-atEnd (tag ∷ b) rest = refused Tag
+unfoldable pub at_end : List ℕ → Judged → Judged
+at_end [] rest = rest
+at_end (tag ∷ b) rest = refused Tag
 
 -- 82's content, and what stands behind it
-unfoldable pub limitedBy : (described : Bool) (d : Description) (content behind : List ℕ) → Judged
-limitedBy described d content behind =
-    require (isShortest content) Maximum
-    (atEnd behind
+unfoldable pub limited_by : (described : Bool) (d : Description) (content behind : List ℕ) → Judged
+limited_by described d content behind =
+    require (is_shortest content) Maximum
+    (at_end behind
     (accepted (saying described d true (value (length content) content))))
 
 -- 82 or the end, behind what was said of channels
-unfoldable pub limitedFrom : (described : Bool) (d : Description) → List ℕ → Judged
-limitedFrom described d [] = accepted (saying described d false 0)
-limitedFrom described d (tag ∷ b) = require (eqb tag 0x82) Tag (withContent b (limitedBy described d))
+unfoldable pub limited_from : (described : Bool) (d : Description) → List ℕ → Judged
+limited_from described d [] = accepted (saying described d false 0)
+limited_from described d (tag ∷ b) = require (eqb tag 0x82) Tag (with_content b (limited_by described d))
 
 -- the refusal of a description's byte
-abbrev pub faultOf : (number place : ℕ) → Refusal
-faultOf number place = cond (eqb number 4) (XOrY (byte.At place)) (ReservedBit place)
+abbrev pub fault_of : (number place : ℕ) → Refusal
+fault_of number place = cond (eqb number 4) (XOrY (byte.At place)) (ReservedBit place)
 
 -- a description has to fill its field, which starts at place 4
 unfoldable pub filling : (size : ℕ) → Answer Description → (behind : List ℕ) → Judged
-filling size (ok d n) behind = require (eqb n size) Length (limitedFrom true d behind)
+filling size (ok d n) behind = require (eqb n size) Length (limited_from true d behind)
 filling size short behind = refused Length
-filling size (bad number place) behind = refused (faultOf number (4 + place))
+filling size (bad number place) behind = refused (fault_of number (4 + place))
 
 -- 81's content, and what stands behind it
-unfoldable pub describedBy : (content behind : List ℕ) → Judged
-describedBy content behind = filling (length content) (run (description Compact) content) behind
+unfoldable pub described_by : (content behind : List ℕ) → Judged
+described_by content behind = filling (length content) (run (description Compact) content) behind
 
 -- 81 if it is there, and what may follow it
-unfoldable pub contentOf : List ℕ → Judged
-contentOf [] = limitedFrom false (nothing Compact) []
-contentOf (tag ∷ b) = cond (eqb tag 0x81) (withContent b describedBy) (limitedFrom false (nothing Compact) (tag ∷ b))
+unfoldable pub content_of : List ℕ → Judged
+content_of [] = limited_from false (nothing Compact) []
+content_of (tag ∷ b) = cond (eqb tag 0x81) (with_content b described_by) (limited_from false (nothing Compact) (tag ∷ b))
 
 -- ---- The whole slice
 
 -- the length is settled before the content
-unfoldable pub lengthAndContent : List ℕ → Judged
-lengthAndContent [] = refused Short
-lengthAndContent (n ∷ content) =
+unfoldable pub length_and_content : List ℕ → Judged
+length_and_content [] = refused Short
+length_and_content (n ∷ content) =
     require (ltb n 128) Length
     (require (leb n (length content)) Short
     (require (leb (length content) n) (LeftOver (2 + n))
-    (contentOf content)))
+    (content_of content)))
 
-unfoldable pub templateOf : List ℕ → Judged
-templateOf [] = refused Short
-templateOf (tag ∷ b) = require (eqb tag 0xB1) Tag (lengthAndContent b)
+unfoldable pub template_of : List ℕ → Judged
+template_of [] = refused Short
+template_of (tag ∷ b) = require (eqb tag 0xB1) Tag (length_and_content b)
 
 -- ---- What a step of the code answers
 
@@ -105,13 +105,13 @@ unfoldable pub end_of : List ℕ → (at : ℕ) → End
 end_of s at = cond (leb (length s) at) Missing (cond (ltb (length s - (at + 1)) (get_or s at 0)) Missing (At (at + 1 + get_or s at 0)))
 
 -- what stands behind what is said of channels, by itself: a verdict, and the maximum if it is there
-abbrev pub limitOf : Judged → Limit
-limitOf j = record { verdict = j.verdict; limited = j.template.limited; maximum = j.template.maximum }
+abbrev pub limit_of : Judged → Limit
+limit_of j = record { verdict = j.verdict; limited = j.template.limited; maximum = j.template.maximum }
 
-abbrev pub verdictWith : Judgement → Template → Judged
-verdictWith Passed t = accepted t
-verdictWith (Refused refusal) t = refused refusal
+abbrev pub verdict_with : Judgement → Template → Judged
+verdict_with Passed t = accepted t
+verdict_with (Refused refusal) t = refused refusal
 
 -- a template of what is said of channels and of that
 abbrev pub filled : (described : Bool) (d : Description) → Limit → Judged
-filled described d l = verdictWith l.verdict (saying described d l.limited l.maximum)
+filled described d l = verdict_with l.verdict (saying described d l.limited l.maximum)

@@ -3,7 +3,7 @@ use Rattle.std.specs.Prelude.{◌≡◌, Bool, true, false, cond, List, [], ◌�
 use Rattle.formats.specs.Number.{digits}
 use Rattle.channels.specs.declared.Description.{Description}
 use Rattle.channels.specs.declared.Format.TheVariants.{Compact}
-use Rattle.descriptions.specs.Description.{encodeDescription, Valid}
+use Rattle.descriptions.specs.Description.{encode_description, Valid}
 use Rattle.descriptions.specs.Read.{nothing}
 use Rattle.templates.specs.declared.Template.{Template}
 
@@ -19,18 +19,18 @@ unfoldable pub shortest : ℕ → List ℕ
 shortest n = digits (fewest n) n
 
 -- 81, where channels are described: a minimum, a maximum, a mean and a deviation have one byte, a scaling value two (8.2.2)
-unfoldable pub encodeDescribed : (described : Bool) → Description → List ℕ
-encodeDescribed true d = field 0x81 (encodeDescription 1 d)
-encodeDescribed false d = []
+unfoldable pub encode_described : (described : Bool) → Description → List ℕ
+encode_described true d = field 0x81 (encode_description 1 d)
+encode_described false d = []
 
 -- 82, where the number of points is limited (8.2.3)
-unfoldable pub encodeLimited : (limited : Bool) (maximum : ℕ) → List ℕ
-encodeLimited true n = field 0x82 (shortest n)
-encodeLimited false n = []
+unfoldable pub encode_limited : (limited : Bool) (maximum : ℕ) → List ℕ
+encode_limited true n = field 0x82 (shortest n)
+encode_limited false n = []
 
 -- B1 holds the two, in this order
 unfoldable pub encode : Template → List ℕ
-encode t = field 0xB1 (encodeDescribed t.described t.description ++ encodeLimited t.limited t.maximum)
+encode t = field 0xB1 (encode_described t.described t.description ++ encode_limited t.limited t.maximum)
 
 -- what can be written as 81 and as 82, and the zeros that stand for one that is absent
 abbrev pub Describes : (described : Bool) → Description → Type 0

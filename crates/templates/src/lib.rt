@@ -1,7 +1,7 @@
 // The compact parameter template (clause 8.2 of ISO/IEC 19794-7:2007): what bytes are read as.
 ghost use Rattle.std.specs.Prelude.{◌≡◌, true, false, ◌-◌, ◌≤◌, length, take, drop};
 ghost use Rattle.formats.specs.Number.{value};
-ghost use Rattle.templates.specs.Reading.{saying, accepted, refused, end_of, isShortest, limitedBy, limitedFrom, limitOf, filled, describedBy, contentOf, templateOf};
+ghost use Rattle.templates.specs.Reading.{saying, accepted, refused, end_of, is_shortest, limited_by, limited_from, limit_of, filled, described_by, content_of, template_of};
 ghost use Rattle.descriptions.specs.Read.{nothing};
 ghost use Rattle.channels.specs.declared.Format.TheVariants.{Compact};
 
@@ -78,7 +78,7 @@ fn end_of(s: &[u8], at: usize) -> End
 
 // One to three bytes, and the first of several isn't zero.
 fn is_shortest(content: &[u8]) -> bool
-    ensures { result ≡ isShortest content.now }
+    ensures { result ≡ is_shortest content.now }
 {
     if content.len() == 0 {
         return false;
@@ -94,7 +94,7 @@ fn is_shortest(content: &[u8]) -> bool
 
 // The number that one to three bytes make, the high byte first.
 fn number_of(content: &[u8]) -> u32
-    requires { isShortest content.now ≡ true }
+    requires { is_shortest content.now ≡ true }
     ensures { result ≡ value (length content.now) content.now }
 {
     let mut number: u32 = 0;
@@ -116,7 +116,7 @@ struct Limit {
 }
 
 fn no_limit(refusal: Refusal) -> Limit
-    ensures { result ≡ limitOf (refused refusal) }
+    ensures { result ≡ limit_of (refused refusal) }
 {
     Limit {
         verdict: Judgement::Refused(refusal),
@@ -126,7 +126,7 @@ fn no_limit(refusal: Refusal) -> Limit
 }
 
 fn up_to(limited: bool, maximum: u32) -> Limit
-    ensures { result ≡ limitOf (accepted (saying false (nothing Compact) limited maximum)) }
+    ensures { result ≡ limit_of (accepted (saying false (nothing Compact) limited maximum)) }
 {
     Limit {
         verdict: Judgement::Passed,
@@ -149,7 +149,7 @@ fn fill(described: bool, description: Description, limit: Limit) -> Judged
 // The largest number of points, from `start` to `end`; nothing may follow it.
 fn limited_by(s: &[u8], start: usize, end: usize) -> Limit
     requires { (start ≤ end) × (end ≤ length s.now) }
-    ensures { result ≡ limitOf (limitedBy false (nothing Compact) (take (end - start) (drop start s.now)) (drop end s.now)) }
+    ensures { result ≡ limit_of (limited_by false (nothing Compact) (take (end - start) (drop start s.now)) (drop end s.now)) }
 {
     let content = &s[start..end];
     if !is_shortest(content) {
@@ -164,7 +164,7 @@ fn limited_by(s: &[u8], start: usize, end: usize) -> Limit
 
 // The field 82 or the end, behind what was said of channels.
 fn limited_from(s: &[u8], at: usize) -> Limit
-    ensures { result ≡ limitOf (limitedFrom false (nothing Compact) (drop at s.now)) }
+    ensures { result ≡ limit_of (limited_from false (nothing Compact) (drop at s.now)) }
 {
     if s.len() <= at {
         return up_to(false, 0);
@@ -181,7 +181,7 @@ fn limited_from(s: &[u8], at: usize) -> Limit
 // The description, from place 4 to `end`, which it has to fill, and what may follow it.
 fn described_by(s: &[u8], end: usize) -> Judged
     requires { (4 ≤ end) × (end ≤ length s.now) }
-    ensures { result ≡ describedBy (take (end - 4) (drop 4 s.now)) (drop end s.now) }
+    ensures { result ≡ described_by (take (end - 4) (drop 4 s.now)) (drop end s.now) }
 {
     let content = &s[4..end];
     let described = descriptions::read(content, 0, Format::Compact);
@@ -210,7 +210,7 @@ fn described_by(s: &[u8], end: usize) -> Judged
 
 // The field 81 if it is there, and what may follow it.
 fn content_of(s: &[u8]) -> Judged
-    ensures { result ≡ contentOf (drop 2 s.now) }
+    ensures { result ≡ content_of (drop 2 s.now) }
 {
     if s.len() <= 2 {
         return fill(
@@ -234,7 +234,7 @@ fn content_of(s: &[u8]) -> Judged
 
 // Whether bytes are a template and nothing more, and what it says (8.2). Its length is settled before its content.
 pub fn read(bytes: &[u8]) -> Judged
-    ensures { result ≡ templateOf bytes.now }
+    ensures { result ≡ template_of bytes.now }
 {
     if bytes.len() == 0 {
         return refused(Refusal::Short);

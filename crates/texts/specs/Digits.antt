@@ -1,72 +1,72 @@
 -- Numbers in decimal and bytes in hex, as bytes of a text, and what a text holds when they have joined it.
 use Rattle.std.specs.Prelude.{◌≡◌, refl, cond, List, [], ◌∷◌, ◌++◌, ℕ, zero, suc, ◌+◌, ◌/◌, ◌%◌, ◌^◌, ltb, ℤ, pos, negsuc, get_or}
-use Rattle.texts.specs.Gathered.{Gathered, gathered, joins, joinsAll, roomFrom}
+use Rattle.texts.specs.Gathered.{Gathered, gathered, joins, joins_all, room_from}
 
 -- ---- Decimal
 
 -- how many digits a number has: the first count whose power of ten is above it, among `count` and as many behind it as are `left`
-unfoldable pub countFrom : (left count number : ℕ) → ℕ
-countFrom zero count number = count
-countFrom (suc left) count number = cond (ltb number (10 ^ count)) count (countFrom left (suc count) number)
+unfoldable pub count_from : (left count number : ℕ) → ℕ
+count_from zero count number = count
+count_from (suc left) count number = cond (ltb number (10 ^ count)) count (count_from left (suc count) number)
 
 -- one digit at least, and twenty hold every number of 64 bits
-abbrev pub digitCount : (number : ℕ) → ℕ
-digitCount number = countFrom 19 1 number
+abbrev pub digit_count : (number : ℕ) → ℕ
+digit_count number = count_from 19 1 number
 
 -- so many digits from the end, the last one last (48 is `0`)
-unfoldable pub lastDigits : (count number : ℕ) → List ℕ
-lastDigits zero number = []
-lastDigits (suc count) number = lastDigits count (number / 10) ++ (48 + number % 10) ∷ []
+unfoldable pub last_digits : (count number : ℕ) → List ℕ
+last_digits zero number = []
+last_digits (suc count) number = last_digits count (number / 10) ++ (48 + number % 10) ∷ []
 
 unfoldable pub decimal : (number : ℕ) → List ℕ
-decimal number = lastDigits (digitCount number) number
+decimal number = last_digits (digit_count number) number
 
 -- the digits of a number join a text that has room for twenty
-unfoldable pub joinsNumber : Gathered → (number : ℕ) → Gathered
-joinsNumber t number = joinsAll (gathered t.bytes (roomFrom t.used)) (decimal number)
+unfoldable pub joins_number : Gathered → (number : ℕ) → Gathered
+joins_number t number = joins_all (gathered t.bytes (room_from t.used)) (decimal number)
 
 -- a number as a field: a space stands before it
-abbrev pub joinsField : Gathered → (number : ℕ) → Gathered
-joinsField t number = joinsNumber (joins t 0x20) number
+abbrev pub joins_field : Gathered → (number : ℕ) → Gathered
+joins_field t number = joins_number (joins t 0x20) number
 
 -- a number with its sign: `-` stands before one below zero (`negsuc n` is -(n + 1))
-unfoldable pub joinsLong : Gathered → ℤ → Gathered
-joinsLong t (pos number) = joinsNumber t number
-joinsLong t (negsuc number) = joinsNumber (joins t 0x2D) (suc number)
+unfoldable pub joins_long : Gathered → ℤ → Gathered
+joins_long t (pos number) = joins_number t number
+joins_long t (negsuc number) = joins_number (joins t 0x2D) (suc number)
 
 -- ---- Hex
 
 -- `0` to `9` and `A` to `F`
-abbrev pub hexDigits : List ℕ
-hexDigits = 48 ∷ 49 ∷ 50 ∷ 51 ∷ 52 ∷ 53 ∷ 54 ∷ 55 ∷ 56 ∷ 57 ∷ 65 ∷ 66 ∷ 67 ∷ 68 ∷ 69 ∷ 70 ∷ []
+abbrev pub hex_digits : List ℕ
+hex_digits = 48 ∷ 49 ∷ 50 ∷ 51 ∷ 52 ∷ 53 ∷ 54 ∷ 55 ∷ 56 ∷ 57 ∷ 65 ∷ 66 ∷ 67 ∷ 68 ∷ 69 ∷ 70 ∷ []
 
-unfoldable pub hexDigit : (number : ℕ) → ℕ
-hexDigit number = get_or hexDigits number 70
+unfoldable pub hex_digit : (number : ℕ) → ℕ
+hex_digit number = get_or hex_digits number 70
 
 -- two digits for each byte
-unfoldable pub hexPairs : List ℕ → List ℕ
-hexPairs [] = []
-hexPairs (byte ∷ bytes) = hexDigit (byte / 16) ∷ hexDigit (byte % 16) ∷ hexPairs bytes
+unfoldable pub hex_pairs : List ℕ → List ℕ
+hex_pairs [] = []
+hex_pairs (byte ∷ bytes) = hex_digit (byte / 16) ∷ hex_digit (byte % 16) ∷ hex_pairs bytes
 
 -- `-` where there is no byte
-unfoldable pub hexWord : List ℕ → List ℕ
-hexWord [] = 0x2D ∷ []
-hexWord (byte ∷ bytes) = hexPairs (byte ∷ bytes)
+unfoldable pub hex_word : List ℕ → List ℕ
+hex_word [] = 0x2D ∷ []
+hex_word (byte ∷ bytes) = hex_pairs (byte ∷ bytes)
 
 -- ---- Examples
 
 zero_is : decimal 0 ≡ 48 ∷ []
-unfolding decimal lastDigits countFrom
+unfolding decimal last_digits count_from
 zero_is = refl
 
 thousand-is : decimal 1080 ≡ 49 ∷ 48 ∷ 56 ∷ 48 ∷ []
-unfolding decimal lastDigits countFrom
+unfolding decimal last_digits count_from
 thousand-is = refl
 
 largest-is : decimal 18446744073709551615 ≡ 49 ∷ 56 ∷ 52 ∷ 52 ∷ 54 ∷ 55 ∷ 52 ∷ 52 ∷ 48 ∷ 55 ∷ 51 ∷ 55 ∷ 48 ∷ 57 ∷ 53 ∷ 53 ∷ 49 ∷ 54 ∷ 49 ∷ 53 ∷ []
-unfolding decimal lastDigits countFrom
+unfolding decimal last_digits count_from
 largest-is = refl
 
-bytes-are : hexWord (0x0F ∷ 0xA5 ∷ []) ≡ 48 ∷ 70 ∷ 65 ∷ 53 ∷ []
-unfolding hexWord hexPairs hexDigit
+bytes-are : hex_word (0x0F ∷ 0xA5 ∷ []) ≡ 48 ∷ 70 ∷ 65 ∷ 53 ∷ []
+unfolding hex_word hex_pairs hex_digit
 bytes-are = refl

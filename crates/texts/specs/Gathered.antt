@@ -15,10 +15,10 @@ unfoldable pub joins : Gathered → (byte : ℕ) → Gathered
 joins t byte = gathered (set t.bytes t.used byte) (cond (eqb t.used 65535) 0 (t.used + 1))
 
 -- bytes join it one by one
-unfoldable pub joinsAll : Gathered → List ℕ → Gathered
-joinsAll t [] = t
-joinsAll t (byte ∷ bytes) = joinsAll (joins t byte) bytes
+unfoldable pub joins_all : Gathered → List ℕ → Gathered
+joins_all t [] = t
+joins_all t (byte ∷ bytes) = joins_all (joins t byte) bytes
 
 -- how many bytes are gathered when there is room for twenty more: none where there was not
-unfoldable pub roomFrom : (used : ℕ) → ℕ
-roomFrom used = cond (ltb 65515 used) 0 used
+unfoldable pub room_from : (used : ℕ) → ℕ
+room_from used = cond (ltb 65515 used) 0 used

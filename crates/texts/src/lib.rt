@@ -3,8 +3,8 @@
 // Sixteen bits count them, so that there is always room for one more.
 // What the text holds then is promised. What standard output receives is not: no contract can say it.
 ghost use Rattle.std.specs.Prelude.{◌≡◌, ◌+◌, ◌<◌, nat_abs};
-ghost use Rattle.texts.specs.Gathered.{gathered, joins, joinsAll, roomFrom};
-ghost use Rattle.texts.specs.Digits.{digitCount, joinsNumber, joinsField, joinsLong, hexDigit, hexWord};
+ghost use Rattle.texts.specs.Gathered.{gathered, joins, joins_all, room_from};
+ghost use Rattle.texts.specs.Digits.{digit_count, joins_number, joins_field, joins_long, hex_digit, hex_word};
 
 // A byte joins the text, which is written out when it has filled its array.
 pub fn put(text: &mut [u8; 65536], used: u16, byte: u8) -> u16
@@ -21,7 +21,7 @@ pub fn put(text: &mut [u8; 65536], used: u16, byte: u8) -> u16
 
 // Bytes join the text one by one.
 fn put_each(text: &mut [u8; 65536], start: u16, bytes: &[u8]) -> u16
-    ensures { gathered text.new result ≡ joinsAll (gathered text.old start) bytes.now }
+    ensures { gathered text.new result ≡ joins_all (gathered text.old start) bytes.now }
 {
     let mut used = start;
     let mut i: usize = 0;
@@ -34,7 +34,7 @@ fn put_each(text: &mut [u8; 65536], start: u16, bytes: &[u8]) -> u16
 
 // Where the bytes do not fill the text this is asked once, and not for each of them.
 pub fn put_bytes(text: &mut [u8; 65536], start: u16, bytes: &[u8]) -> u16
-    ensures { gathered text.new result ≡ joinsAll (gathered text.old start) bytes.now }
+    ensures { gathered text.new result ≡ joins_all (gathered text.old start) bytes.now }
 {
     let first = start as usize;
     if 65535 - first < bytes.len() {
@@ -50,7 +50,7 @@ pub fn put_bytes(text: &mut [u8; 65536], start: u16, bytes: &[u8]) -> u16
 
 // How many digits a number has. Sixty-four bits hold none of more than twenty.
 fn digit_count(number: u64) -> usize
-    ensures { (result ≡ digitCount number) × (0 < result) × (result < 21) }
+    ensures { (result ≡ digit_count number) × (0 < result) × (result < 21) }
 {
     let mut count: usize = 1;
     let mut limit: u64 = 10;
@@ -66,7 +66,7 @@ fn digit_count(number: u64) -> usize
 
 // Twenty bytes have room in the text, which is written out where they have not.
 fn room(text: &[u8; 65536], used: u16) -> u16
-    ensures { (result ≡ roomFrom used) × (result + 20 < 65536) }
+    ensures { (result ≡ room_from used) × (result + 20 < 65536) }
 {
     if 65515 < used {
         write_out(text, used);
@@ -77,7 +77,7 @@ fn room(text: &[u8; 65536], used: u16) -> u16
 
 // The digits are put where they belong at once, the last one first: each takes one division.
 pub fn put_number(text: &mut [u8; 65536], start: u16, number: u64) -> u16
-    ensures { gathered text.new result ≡ joinsNumber (gathered text.old start) number }
+    ensures { gathered text.new result ≡ joins_number (gathered text.old start) number }
 {
     let first = room(text, start) as usize;
     let end = first + digit_count(number);
@@ -93,7 +93,7 @@ pub fn put_number(text: &mut [u8; 65536], start: u16, number: u64) -> u16
 
 // A number as a field of a line: a space stands before it.
 pub fn put_field(text: &mut [u8; 65536], start: u16, number: u64) -> u16
-    ensures { gathered text.new result ≡ joinsField (gathered text.old start) number }
+    ensures { gathered text.new result ≡ joins_field (gathered text.old start) number }
 {
     let used = put(text, start, b' ');
     put_number(text, used, number)
@@ -113,7 +113,7 @@ fn magnitude(value: i64) -> u64
 }
 
 pub fn put_long(text: &mut [u8; 65536], start: u16, value: i64) -> u16
-    ensures { gathered text.new result ≡ joinsLong (gathered text.old start) value }
+    ensures { gathered text.new result ≡ joins_long (gathered text.old start) value }
 {
     let mut used = start;
     if value < 0 {
@@ -123,14 +123,14 @@ pub fn put_long(text: &mut [u8; 65536], start: u16, value: i64) -> u16
 }
 
 pub fn put_value(text: &mut [u8; 65536], used: u16, value: i32) -> u16
-    ensures { gathered text.new result ≡ joinsLong (gathered text.old used) value }
+    ensures { gathered text.new result ≡ joins_long (gathered text.old used) value }
 {
     put_long(text, used, value as i64)
 }
 
 // The hex digit of a number below 16, in a capital letter.
 fn hex_digit(number: u8) -> u8
-    ensures { result ≡ hexDigit number }
+    ensures { result ≡ hex_digit number }
 {
     match number {
         0 => b'0',
@@ -154,7 +154,7 @@ fn hex_digit(number: u8) -> u8
 
 // Bytes as pairs of hex digits, or `-` where there are none.
 pub fn put_hex(text: &mut [u8; 65536], start: u16, bytes: &[u8]) -> u16
-    ensures { gathered text.new result ≡ joinsAll (gathered text.old start) (hexWord bytes.now) }
+    ensures { gathered text.new result ≡ joins_all (gathered text.old start) (hex_word bytes.now) }
 {
     if bytes.len() == 0 {
         return put(text, start, b'-');

@@ -13,37 +13,37 @@ use Rattle.tip_switch.specs.declared.Switch.TheVariants.{State, NotAdmitted}
 abbrev pub admitted : ℕ → Bool
 admitted byte = leb byte 1
 
-abbrev pub admittedByte : ℕ
-admittedByte = 0x00
+abbrev pub admitted_byte : ℕ
+admitted_byte = 0x00
 
 unfoldable pub state_of : ℕ → ℤ
 state_of byte = pos byte
 
 -- the numbers that are states, and the byte for one
-unfoldable pub isState : ℤ → Bool
-isState v = non_neg v && lt_z v (pos 2)
+unfoldable pub is_state : ℤ → Bool
+is_state v = non_neg v && lt_z v (pos 2)
 
 unfoldable pub byte_of : ℤ → ℕ
 byte_of v = nat_abs v
 
 -- what code answers
-unfoldable pub stateIf : ℕ → Switch
-stateIf byte = cond (admitted byte) (State (state_of byte)) NotAdmitted
+unfoldable pub state_if : ℕ → Switch
+state_if byte = cond (admitted byte) (State (state_of byte)) NotAdmitted
 
-unfoldable pub byteIf : ℤ → Stored
-byteIf v = cond (isState v) (Number (byte_of v)) Outside
+unfoldable pub byte_if : ℤ → Stored
+byte_if v = cond (is_state v) (Number (byte_of v)) Outside
 
 -- what an answer says of the byte
-pub state-found : (b : ℕ) {v : ℤ} → stateIf b ≡ State v → (admitted b ≡ true) × (state_of b ≡ v)
-unfolding stateIf
+pub state-found : (b : ℕ) {v : ℤ} → state_if b ≡ State v → (admitted b ≡ true) × (state_of b ≡ v)
+unfolding state_if
 state-found b {v} e = go (admitted b) refl e
   where
     go : (t : Bool) → admitted b ≡ t → cond t (State (state_of b)) NotAdmitted ≡ State v → (admitted b ≡ true) × (state_of b ≡ v)
     go true h q = (h, cc)
     go false h q = impossible (cc)
 
-pub state-refused : (b : ℕ) → stateIf b ≡ NotAdmitted → admitted b ≡ false
-unfolding stateIf
+pub state-refused : (b : ℕ) → state_if b ≡ NotAdmitted → admitted b ≡ false
+unfolding state_if
 state-refused b e = go (admitted b) refl e
   where
     go : (t : Bool) → admitted b ≡ t → cond t (State (state_of b)) NotAdmitted ≡ NotAdmitted → admitted b ≡ false
@@ -56,11 +56,11 @@ pub byte-state : (b : ℕ) → admitted b ≡ true → byte_of (state_of b) ≡ 
 unfolding byte_of state_of
 byte-state b h = refl
 
-pub state-is : (b : ℕ) → admitted b ≡ true → T (isState (state_of b))
-unfolding isState state_of
+pub state-is : (b : ℕ) → admitted b ≡ true → T (is_state (state_of b))
+unfolding is_state state_of
 state-is b h = lt→ltb b 2 (omega (arith, leb-true b 1 h))
 
-pub state-byte : (v : ℤ) → T (isState v) → ((byte_of v < 256) × (admitted (byte_of v) ≡ true)) × (state_of (byte_of v) ≡ v)
-unfolding isState state_of byte_of
+pub state-byte : (v : ℤ) → T (is_state v) → ((byte_of v < 256) × (admitted (byte_of v) ≡ true)) × (state_of (byte_of v) ≡ v)
+unfolding is_state state_of byte_of
 state-byte (pos n) h = let e : n < 2 = ltb→lt n 2 h in ((omega arith, le-leb n 1 (omega arith)), refl)
 state-byte (negsuc n) h = absurd h

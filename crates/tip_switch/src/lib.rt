@@ -1,6 +1,6 @@
 // The tip switch of a sample point, S: how its state is stored (7.4.2, as decided: docs/DECISIONS.md).
 ghost use Rattle.std.specs.Prelude.{◌≡◌};
-ghost use Rattle.tip_switch.specs.Switch.{state_of, stateIf, byteIf};
+ghost use Rattle.tip_switch.specs.Switch.{state_of, state_if, byte_if};
 
 use channels::Stored;
 
@@ -20,7 +20,7 @@ pub enum Switch {
 
 // The state of the tip switch that a byte of a sample point stands for (7.4.2, as decided).
 pub fn state_of(byte: u8) -> Switch
-    ensures { result ≡ stateIf byte }
+    ensures { result ≡ state_if byte }
 {
     if 1 < byte {
         return Switch::NotAdmitted;
@@ -30,7 +30,7 @@ pub fn state_of(byte: u8) -> Switch
 
 // The byte of a sample point for a state of the tip switch.
 pub fn byte_of(state: i32) -> Stored
-    ensures { result ≡ byteIf state }
+    ensures { result ≡ byte_if state }
 {
     if state < 0 {
         return Stored::Outside;

@@ -11,19 +11,19 @@ use lib.Dec.{eqb}
 use lib.IntN.{ℤ}
 use lib.ListN.{length, get_or, drop, length-append, drop_of_length-le}
 use lib.Seq.{drop-cons}
-use Rattle.formats.specs.Reader.{ok, readAt, times}
+use Rattle.formats.specs.Reader.{ok, read_at, times}
 use Rattle.formats.specs.Number.{digits}
-use Rattle.formats.specs.Writes.{encodeEach}
+use Rattle.formats.specs.Writes.{encode_each}
 use Rattle.formats.specs.Laid.{Room}
 use Rattle.channels.specs.Channel.{S}
 use Rattle.channels.specs.declared.Place.{Place}
 use Rattle.channels.specs.declared.Place.TheVariants.{Number}
 use Rattle.channels.specs.declared.Stored.{Stored}
 use Rattle.channels.specs.contracts.Place as place
-use Rattle.point_places.specs.Places.{unstored, places_of, placesIn}
-use Rattle.points.specs.Points.{storedFrom, channels, point, widths, width}
-use Rattle.values.specs.Values.{storedSample, numberIn, sampleBytes, bytes_of}
-use Rattle.turning.specs.Parts.{bytesIn}
+use Rattle.point_places.specs.Places.{unstored, places_of, places_in}
+use Rattle.points.specs.Points.{stored_from, channels, point, widths, width}
+use Rattle.values.specs.Values.{stored_sample, number_in, sample_bytes, bytes_of}
+use Rattle.turning.specs.Parts.{bytes_in}
 use Rattle.turning.proofs.Standing.{no_number, counted, ith, ith-size}
 
 -- ---- A number
@@ -32,44 +32,44 @@ one-wide : (t : Bool) → ◌≡◌ {A = ℕ} (cond t 1 1) 1
 one-wide true = refl
 one-wide false = refl
 
-pub sample-byte : (channel : ℕ) (v : ℤ) {found : Stored} → storedSample 1 channel v ≡ found → sampleBytes 1 channel v ≡ numberIn found % 256 ∷ []
-unfolding sampleBytes digits
+pub sample-byte : (channel : ℕ) (v : ℤ) {found : Stored} → stored_sample 1 channel v ≡ found → sample_bytes 1 channel v ≡ number_in found % 256 ∷ []
+unfolding sample_bytes digits
 sample-byte channel v e = rw (one-wide (eqb channel S), e)
 
 -- ---- The places of a point
 
-pub places-bytes : (i : ℕ) (included flags : List Bool) (p : List ℤ) → length p ≡ length (storedFrom i flags)
-    → bytesIn i (places_of included flags p) ≡ encodeEach (sampleBytes 1) (storedFrom i flags) p
-unfolding bytesIn places_of encodeEach storedFrom
+pub places-bytes : (i : ℕ) (included flags : List Bool) (p : List ℤ) → length p ≡ length (stored_from i flags)
+    → bytes_in i (places_of included flags p) ≡ encode_each (sample_bytes 1) (stored_from i flags) p
+unfolding bytes_in places_of encode_each stored_from
 places-bytes i included [] p h = refl
 places-bytes i included (true ∷ flags) [] h = absurd (omega arith)
-places-bytes i included (true ∷ flags) (v ∷ p) h = ap (λ b. sampleBytes 1 i v ++ b) (places-bytes (suc i) (drop 1 included) flags p (omega arith))
+places-bytes i included (true ∷ flags) (v ∷ p) h = ap (λ b. sample_bytes 1 i v ++ b) (places-bytes (suc i) (drop 1 included) flags p (omega arith))
 places-bytes i included (false ∷ flags) p h = go (get_or included 0 false) (places-bytes (suc i) (drop 1 included) flags p h)
   where
-    go : (t : Bool) → bytesIn (suc i) (places_of (drop 1 included) flags p) ≡ encodeEach (sampleBytes 1) (storedFrom (suc i) flags) p
-        → bytesIn i (unstored t ∷ places_of (drop 1 included) flags p) ≡ encodeEach (sampleBytes 1) (storedFrom (suc i) flags) p
+    go : (t : Bool) → bytes_in (suc i) (places_of (drop 1 included) flags p) ≡ encode_each (sample_bytes 1) (stored_from (suc i) flags) p
+        → bytes_in i (unstored t ∷ places_of (drop 1 included) flags p) ≡ encode_each (sample_bytes 1) (stored_from (suc i) flags) p
     go true e = e
     go false e = e
 
 -- those from channel i on: one that is no number has no byte, and a number has one
 module _ (places : List Place) (i : ℕ) (d : Place) (h : i < length places) where
-  pub pass-place : OneOf (0 ∷ 1 ∷ []) (tag_of place.the_type (get_or places i d)) → bytesIn i (drop i places) ≡ bytesIn (i + 1) (drop (i + 1) places)
-  unfolding bytesIn
-  pass-place q = rw (add-one, drop-cons places i d h) (no_number (λ p. bytesIn i (p ∷ drop (suc i) places)) _ refl refl (get_or places i d) q)
+  pub pass-place : OneOf (0 ∷ 1 ∷ []) (tag_of place.the_type (get_or places i d)) → bytes_in i (drop i places) ≡ bytes_in (i + 1) (drop (i + 1) places)
+  unfolding bytes_in
+  pass-place q = rw (add-one, drop-cons places i d h) (no_number (λ p. bytes_in i (p ∷ drop (suc i) places)) _ refl refl (get_or places i d) q)
 
-  pub take-place : {v : ℤ} {b : ℕ} → get_or places i d ≡ Number v → b ∷ [] ≡ sampleBytes 1 i v → bytesIn i (drop i places) ≡ (b ∷ []) ++ bytesIn (i + 1) (drop (i + 1) places)
-  unfolding bytesIn
-  take-place {v} e q = rw (add-one, drop-cons places i d h, e) (ap (λ b. b ++ bytesIn (suc i) (drop (suc i) places)) (sym q))
+  pub take-place : {v : ℤ} {b : ℕ} → get_or places i d ≡ Number v → b ∷ [] ≡ sample_bytes 1 i v → bytes_in i (drop i places) ≡ (b ∷ []) ++ bytes_in (i + 1) (drop (i + 1) places)
+  unfolding bytes_in
+  take-place {v} e q = rw (add-one, drop-cons places i d h, e) (ap (λ b. b ++ bytes_in (suc i) (drop (suc i) places)) (sym q))
 
-pub no-places : (places : List Place) (i : ℕ) → length places ≤ i → bytesIn i (drop i places) ≡ []
-unfolding bytesIn
+pub no-places : (places : List Place) (i : ℕ) → length places ≤ i → bytes_in i (drop i places) ≡ []
+unfolding bytes_in
 no-places places i h = rw (drop_of_length-le places {i = i} h)
 
 -- ---- All points
 
 -- a point has a byte for each stored channel
-point-length : (l : List ℕ) (p : List ℤ) → length p ≡ length l → length (encodeEach (sampleBytes 1) l p) ≡ widths 1 l
-unfolding encodeEach widths
+point-length : (l : List ℕ) (p : List ℤ) → length p ≡ length l → length (encode_each (sample_bytes 1) l p) ≡ widths 1 l
+unfolding encode_each widths
 point-length [] p h = refl
 point-length (channel ∷ l) [] h = absurd (omega arith)
 point-length (channel ∷ l) (v ∷ p) h =
@@ -80,7 +80,7 @@ points-length : (stored : List Bool) (points : List (List ℤ)) → ((i : ℕ) �
 unfolding bytes_of flat_map width
 points-length stored [] h = omega arith
 points-length stored (p ∷ points) h =
-    length-append (encodeEach (sampleBytes 1) (channels stored) p) _
+    length-append (encode_each (sample_bytes 1) (channels stored) p) _
     ∙ ap₂ ◌+◌ (point-length (channels stored) p (h 0 (omega arith))) (points-length stored points (λ i q. h (suc i) (omega arith)))
     ∙ omega arith
 
@@ -89,7 +89,7 @@ unfolding bytes_of flat_map
 no-points stored points i h = rw (drop_of_length-le points {i = i} h)
 
 -- those of a record, which were read from a place on
-module _ (whole : List ℕ) (start : ℕ) (stored : List Bool) (count : ℕ) (points : List (List ℤ)) (end : ℕ) (within : start ≤ length whole) (e : readAt (times count (point 2 stored)) whole start ≡ ok points end) where
+module _ (whole : List ℕ) (start : ℕ) (stored : List Bool) (count : ℕ) (points : List (List ℤ)) (end : ℕ) (within : start ≤ length whole) (e : read_at (times count (point 2 stored)) whole start ≡ ok points end) where
   many : length points ≡ count
   many = counted whole start stored count points end within e
 
@@ -97,9 +97,9 @@ module _ (whole : List ℕ) (start : ℕ) (stored : List Bool) (count : ℕ) (po
   sized i h = ith-size whole start stored count points end within e i h
 
   -- the bytes of the ith one's places come next
-  pub next-bytes : (i : ℕ) → i < count → (places : List Place) (from : ℕ) → places ≡ placesIn stored stored (readAt (point 2 stored) whole from) → from ≡ start + i * width 2 stored
-      → bytes_of 1 stored (drop i points) ≡ bytesIn 0 places ++ bytes_of 1 stored (drop (i + 1) points)
-  unfolding bytes_of flat_map placesIn channels
+  pub next-bytes : (i : ℕ) → i < count → (places : List Place) (from : ℕ) → places ≡ places_in stored stored (read_at (point 2 stored) whole from) → from ≡ start + i * width 2 stored
+      → bytes_of 1 stored (drop i points) ≡ bytes_in 0 places ++ bytes_of 1 stored (drop (i + 1) points)
+  unfolding bytes_of flat_map places_in channels
   next-bytes i h places from p q =
       rw (p, q, ith whole start stored count points end within e i h, places-bytes 0 stored stored (get_or points i []) (sized i h), add-one, drop-cons points i [] (omega (arith, many)))
 

@@ -9,7 +9,7 @@ use types.Run.{OneOf, miss}
 use denote.Enum.Declared.{tag_of}
 use lib.IntN.{ℤ}
 use lib.ListN.{length, get_or}
-use Rattle.formats.specs.Reader.{ok, readAt, times}
+use Rattle.formats.specs.Reader.{ok, read_at, times}
 use Rattle.formats.specs.Compose.{at-within}
 use Rattle.formats.specs.Fixed.{times-length, fixed-times}
 use Rattle.channels.specs.declared.Place.{Place}
@@ -24,13 +24,13 @@ no_number f rest a c Absent h = a
 no_number f rest a c Constant h = c
 no_number f rest a c (Number v) h = absurd (miss (0 ∷ 1 ∷ []) 2 tt h)
 
-module _ (s : List ℕ) (start : ℕ) (stored : List Bool) (count : ℕ) (points : List (List ℤ)) (end : ℕ) (within : start ≤ length s) (e : readAt (times count (point 2 stored)) s start ≡ ok points end) where
+module _ (s : List ℕ) (start : ℕ) (stored : List Bool) (count : ℕ) (points : List (List ℤ)) (end : ℕ) (within : start ≤ length s) (e : read_at (times count (point 2 stored)) s start ≡ ok points end) where
   pub counted : length points ≡ count
   counted = times-length (point 2 stored) s count start e
 
   module _ (i : ℕ) (h : i < count) where
     -- the ith stands i widths behind the first
-    pub ith : readAt (point 2 stored) s (start + i * width 2 stored) ≡ ok (get_or points i []) (start + i * width 2 stored + width 2 stored)
+    pub ith : read_at (point 2 stored) s (start + i * width 2 stored) ≡ ok (get_or points i []) (start + i * width 2 stored + width 2 stored)
     ith = nth-point 2 stored s count start points end within e i h
 
     pub ith-size : length (get_or points i []) ≡ length (channels stored)

@@ -9,12 +9,12 @@ use lib.Dec.{leb, ltb}
 use lib.ListN.{length}
 use Rattle.formats.specs.Bytes.{impossible}
 use Rattle.formats.specs.Put.{puts}
-use Rattle.formats.specs.Reader.{Answer, ok, short, bad, run, readAt, times}
+use Rattle.formats.specs.Reader.{Answer, ok, short, bad, run, read_at, times}
 use Rattle.formats.specs.Law.{whole}
 use Rattle.formats.specs.declared.Failure.TheVariants.{Short, Bad}
 use Rattle.formats.specs.Writes.{All}
 use Rattle.refusals.specs.declared.Refusal.{Refusal}
-use Rattle.refusals.specs.Table.{refusalOf}
+use Rattle.refusals.specs.Table.{refusal_of}
 use Rattle.refusals.specs.declared.Refusal.TheVariants.{LeftOver, Room}
 use Rattle.refusals.specs.declared.Judgement.{Judgement}
 use Rattle.refusals.specs.declared.Judgement.TheVariants as judgement
@@ -27,23 +27,23 @@ use Rattle.orders.specs.declared.Order.TheVariants.{Point}
 use Rattle.values.specs.Values.{bytes_of}
 use Rattle.values.specs.ValueLaws.{fits-valid, valid-bytes}
 use Rattle.channels.specs.declared.Description.{Description}
-use Rattle.records.specs.Record.{Record, fullRecord, present}
-use Rattle.record_reading.specs.Verdict.{verdictFrom, descriptionIn, judged, unjudged, judgedWhole}
+use Rattle.records.specs.Record.{Record, full_record, present}
+use Rattle.record_reading.specs.Verdict.{verdict_from, description_in, judged, unjudged, judged_whole}
 use Rattle.record_reading.specs.declared.Verdict.TheVariants as verdict
 use Rattle.record_reading.specs.declared.Judged.{Judged}
 use Rattle.record_fronts.specs.Front.{front}
-use Rattle.record_fronts.specs.Fronted.{frontIn}
+use Rattle.record_fronts.specs.Fronted.{front_in}
 use Rattle.record_fronts.specs.declared.Front.{Front}
-use Rattle.record_layouts.specs.Layout.{layoutAt}
+use Rattle.record_layouts.specs.Layout.{layout_at}
 use Rattle.record_layouts.specs.LayoutLaws.{Lying, read-lies}
 use Rattle.bodies.specs.WritingLaws.{passes}
-use Rattle.turning.specs.Turning.{bodyBytes, bodyJudgement, judgedBody, turning, putBoth, turned, turn_of}
+use Rattle.turning.specs.Turning.{body_bytes, body_judgement, judged_body, turning, put_both, turned, turn_of}
 use Rattle.turning.specs.declared.Turned.TheVariants.{Both, Refused}
 use Rattle.turning.proofs.Standing.{counted, ith-size}
 
-module _ (s : List ℕ) (r : Record) (q : run fullRecord s ≡ ok r (length s)) (f : Front) (p : f ≡ frontIn (readAt front s 0)) where
-  lying : Lying s f (layoutAt s 0) r (length s)
-  lying = subst (λ h. Lying s h (layoutAt s 0) r (length s)) (sym p) (read-lies s (layoutAt s 0) refl q)
+module _ (s : List ℕ) (r : Record) (q : run full_record s ≡ ok r (length s)) (f : Front) (p : f ≡ front_in (read_at front s 0)) where
+  lying : Lying s f (layout_at s 0) r (length s)
+  lying = subst (λ h. Lying s h (layout_at s 0) r (length s)) (sym p) (read-lies s (layout_at s 0) refl q)
 
   pub front-within : f.points ≤ length s
   front-within = lying.within
@@ -55,10 +55,10 @@ module _ (s : List ℕ) (r : Record) (q : run fullRecord s ≡ ok r (length s)) 
   front-stores = lying.stores
 
   -- its points are read from there
-  pub front_reads : readAt (times f.count (point 2 f.stored)) s f.points ≡ ok r.points (layoutAt s 0).extension
+  pub front_reads : read_at (times f.count (point 2 f.stored)) s f.points ≡ ok r.points (layout_at s 0).extension
   front_reads = rw (lying.counted, lying.stores) lying.points
 
-  pub front-judged : bodyJudgement f.stored f.count r.points f.announced ≡ judgedBody r
+  pub front-judged : body_judgement f.stored f.count r.points f.announced ≡ judged_body r
   front-judged = rw (front-stores, front-counts, lying.announced ∙ sym lying.extension.presence)
 
   sizes : All (λ point. length point ≡ size f.stored) r.points
@@ -67,20 +67,20 @@ module _ (s : List ℕ) (r : Record) (q : run fullRecord s ≡ ok r (length s)) 
       all-sized (size f.stored) r.points (λ i h. ith-size s f.points f.stored f.count r.points _ front-within front_reads i (omega (arith, many)))
 
   -- where the stages of the body are passed its points fit one byte
-  module _ (passed : judgedBody r ≡ judgement.Passed) where
+  module _ (passed : judged_body r ≡ judgement.Passed) where
     fitting : All (ValidPoint 1 (stored r.description)) r.points
-    unfolding bodyJudgement
+    unfolding body_judgement
     fitting =
         let flags = stored r.description in
         let numbers = values_of Point (size flags) r.points in
         let x = passes flags false 0 (length r.points) numbers (present r.extended) passed in
         rw (points-again (size flags) r.points (rw front-stores at sizes) Point) at (fits-valid 1 flags Point (length r.points) numbers x.fitting).1
 
-    pub body-long : f.count * width 1 f.stored ≡ length (bodyBytes r)
+    pub body-long : f.count * width 1 f.stored ≡ length (body_bytes r)
     body-long = rw (front-counts, front-stores) (sym (points-length 1 (stored r.description) r.points fitting))
 
-    pub body_bytes : bytes_of 1 f.stored r.points ≡ bodyBytes r
-    body_bytes = rw front-stores (valid-bytes 1 (stored r.description) r.points fitting)
+    pub body_bytes_lem : bytes_of 1 f.stored r.points ≡ body_bytes r
+    body_bytes_lem = rw front-stores (valid-bytes 1 (stored r.description) r.points fitting)
 
 -- ---- What becomes of the outputs
 
@@ -102,21 +102,21 @@ roomy a b c d e = go (ltb b a) (ltb d c) refl refl e
     go false false h g q = (omega (arith, ltb-false b a h), omega (arith, ltb-false d c g))
 
 module _ (described points template body : List ℕ) {j : Judgement} where
-  pub turn-refused : {refusal : Refusal} → j ≡ judgement.Refused refusal → turning (Refused refusal) template body ≡ putBoth described points template body j
-  unfolding putBoth
+  pub turn-refused : {refusal : Refusal} → j ≡ judgement.Refused refusal → turning (Refused refusal) template body ≡ put_both described points template body j
+  unfolding put_both
   turn-refused e = rw e
 
   module _ (e : j ≡ judgement.Passed) {n : ℕ} (long : n ≡ length points) where
-    pub turn-crowded : (ltb (length template) (length described) || ltb (length body) n) ≡ true → turning (Refused Room) template body ≡ putBoth described points template body j
-    unfolding putBoth
+    pub turn-crowded : (ltb (length template) (length described) || ltb (length body) n) ≡ true → turning (Refused Room) template body ≡ put_both described points template body j
+    unfolding put_both
     turn-crowded h = rw (e, crowded (length described) (length template) (length points) (length body) (rw long at h))
 
     module _ (h : (ltb (length template) (length described) || ltb (length body) n) ≡ false) where
       pub both-room : (length described ≤ length template) × (n ≤ length body)
       both-room = roomy (length described) (length template) n (length body) h
 
-      pub turn-done : {t b : List ℕ} → t ≡ puts template 0 described → b ≡ puts body 0 points → turning (Both (length described) n) t b ≡ putBoth described points template body j
-      unfolding putBoth
+      pub turn-done : {t b : List ℕ} → t ≡ puts template 0 described → b ≡ puts body 0 points → turning (Both (length described) n) t b ≡ put_both described points template body j
+      unfolding put_both
       turn-done p q =
           let x = both-room in
           rw (e, le-leb (length described) (length template) x.0, le-leb (length points) (length body) (omega (arith, x.1)), p, q, long)
@@ -124,37 +124,37 @@ module _ (described points template body : List ℕ) {j : Judgement} where
 -- ---- The whole slice's own verdict
 
 module _ (s template body : List ℕ) where
-  refused-by : (x : Answer Record) {refusal : Refusal} → (judgedWhole (length s) x).verdict ≡ verdict.Refused refusal → turning (Refused refusal) template body ≡ turn_of (length s) x template body
-  unfolding judgedWhole turn_of verdictFrom
+  refused-by : (x : Answer Record) {refusal : Refusal} → (judged_whole (length s) x).verdict ≡ verdict.Refused refusal → turning (Refused refusal) template body ≡ turn_of (length s) x template body
+  unfolding judged_whole turn_of verdict_from
   refused-by (ok r n) {refusal} e = go (ltb n (length s)) e
     where
       go : (t : Bool) → (cond t (unjudged (verdict.Refused (LeftOver n))) (judged (ok r n))).verdict ≡ verdict.Refused refusal
           → turning (Refused refusal) template body ≡ cond t (turning (Refused (LeftOver n)) template body) (turned r template body)
       go true q = let z : refusal ≡ LeftOver n = cc in rw z
       go false q = impossible (cc)
-  refused-by short {refusal} e = let z : refusal ≡ refusalOf Short = cc in rw z
-  refused-by (bad k p) {refusal} e = let z : refusal ≡ refusalOf (Bad k p) = cc in rw z
+  refused-by short {refusal} e = let z : refusal ≡ refusal_of Short = cc in rw z
+  refused-by (bad k p) {refusal} e = let z : refusal ≡ refusal_of (Bad k p) = cc in rw z
 
-  pub own-refused : {j : Judged} {refusal : Refusal} → j ≡ judgedWhole (length s) (run fullRecord s) → j.verdict ≡ verdict.Refused refusal
-      → turning (Refused refusal) template body ≡ turn_of (length s) (run fullRecord s) template body
-  own-refused e q = refused-by (run fullRecord s) (sym (ap (λ j. j.verdict) e) ∙ q)
+  pub own-refused : {j : Judged} {refusal : Refusal} → j ≡ judged_whole (length s) (run full_record s) → j.verdict ≡ verdict.Refused refusal
+      → turning (Refused refusal) template body ≡ turn_of (length s) (run full_record s) template body
+  own-refused e q = refused-by (run full_record s) (sym (ap (λ j. j.verdict) e) ∙ q)
 
 -- where it is a record it is one that fills the slice, with the description that was answered
 pub record Filled (s : List ℕ) (d : Description) : Type 0 where
   pub value : Record
-  pub read : run fullRecord s ≡ ok value (length s)
+  pub read : run full_record s ≡ ok value (length s)
   pub said : d ≡ value.description
 
-filled-by : (s : List ℕ) (x : Answer Record) → run fullRecord s ≡ x → {n k : ℕ} {t : Bool} → (judgedWhole (length s) x).verdict ≡ verdict.Record n k t → Filled s (judgedWhole (length s) x).description
-unfolding judgedWhole verdictFrom descriptionIn
+filled-by : (s : List ℕ) (x : Answer Record) → run full_record s ≡ x → {n k : ℕ} {t : Bool} → (judged_whole (length s) x).verdict ≡ verdict.Record n k t → Filled s (judged_whole (length s) x).description
+unfolding judged_whole verdict_from description_in
 filled-by s (ok r m) q {n} {k} {t} e = go (ltb m (length s)) refl e
   where
     go : (u : Bool) → ltb m (length s) ≡ u → (cond u (unjudged (verdict.Refused (LeftOver m))) (judged (ok r m))).verdict ≡ verdict.Record n k t
         → Filled s (cond u (unjudged (verdict.Refused (LeftOver m))) (judged (ok r m))).description
     go true h z = impossible (cc)
-    go false h z = record { value = r; read = q ∙ ap (ok r) {x = m} {y = length s} (omega (arith, ltb-false m (length s) h, (whole fullRecord s q).within)); said = refl }
+    go false h z = record { value = r; read = q ∙ ap (ok r) {x = m} {y = length s} (omega (arith, ltb-false m (length s) h, (whole full_record s q).within)); said = refl }
 filled-by s short q e = impossible (cc)
 filled-by s (bad j p) q e = impossible (cc)
 
-pub filled : (s : List ℕ) {j : Judged} {n k : ℕ} {t : Bool} → j ≡ judgedWhole (length s) (run fullRecord s) → j.verdict ≡ verdict.Record n k t → Filled s j.description
-filled s e q = let x = filled-by s (run fullRecord s) refl (sym (ap (λ j. j.verdict) e) ∙ q) in record { value = x.value; read = x.read; said = ap (λ j. j.description) e ∙ x.said }
+pub filled : (s : List ℕ) {j : Judged} {n k : ℕ} {t : Bool} → j ≡ judged_whole (length s) (run full_record s) → j.verdict ≡ verdict.Record n k t → Filled s j.description
+filled s e q = let x = filled-by s (run full_record s) refl (sym (ap (λ j. j.verdict) e) ∙ q) in record { value = x.value; read = x.read; said = ap (λ j. j.description) e ∙ x.said }

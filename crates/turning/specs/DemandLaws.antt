@@ -13,15 +13,15 @@ use Rattle.formats.specs.Reader.{ok}
 use Rattle.formats.specs.Writes.{All}
 use Rattle.formats.specs.Lent.{writing}
 use Rattle.refusals.specs.Stages.{require, or_else, stages, compactly, require-passed, compactly-passed, stages-passed}
-use Rattle.refusals.specs.Table.{inCompact}
-use Rattle.refusals.specs.Ranges.{Ranged, firstMisfit}
+use Rattle.refusals.specs.Table.{in_compact}
+use Rattle.refusals.specs.Ranges.{Ranged, first_misfit}
 use Rattle.refusals.specs.declared.Quantity.{Quantity}
 use Rattle.refusals.specs.declared.Quantity.TheVariants as quantity
 use Rattle.refusals.specs.declared.Refusal.{Refusal}
 use Rattle.refusals.specs.declared.Refusal.TheVariants.{OutOfRange, NotCompact, Room, NoPoint}
 use Rattle.refusals.specs.declared.Judgement.{Judgement}
 use Rattle.refusals.specs.declared.Judgement.TheVariants as judgement
-use Rattle.channels.specs.Channel.{isSame}
+use Rattle.channels.specs.Channel.{is_same}
 use Rattle.channels.specs.Descriptors.{stored, included}
 use Rattle.channels.specs.declared.Description.{Description}
 use Rattle.channels.specs.declared.Format.TheVariants.{Full, Compact}
@@ -33,32 +33,32 @@ use Rattle.orders.specs.declared.Order.TheVariants.{Point}
 use Rattle.values.specs.Values as values
 use Rattle.values.specs.ValueLaws.{valid-sizes}
 use Rattle.descriptions.specs.Description as descriptions
-use Rattle.descriptions.specs.Description.{includesXY, neat}
+use Rattle.descriptions.specs.Description.{includes_xy, neat}
 use Rattle.descriptions.specs.EncodedLaws.{tidy-neat}
 use Rattle.description_judging.specs.Judging as described
-use Rattle.description_judging.specs.Judging.{neatIn}
+use Rattle.description_judging.specs.Judging.{neat_in}
 use Rattle.description_judging.specs.NamingLaws.{by-numbers}
-use Rattle.records.specs.Record.{Record, Valid, present, extendedBytes}
+use Rattle.records.specs.Record.{Record, Valid, present, extended_bytes}
 use Rattle.records.specs.Demands.{write-after-read}
-use Rattle.record_points.specs.Pointing.{placesIn}
+use Rattle.record_points.specs.Pointing.{places_in}
 use Rattle.record_writing.specs.Write as record-writing
 use Rattle.record_writing.specs.RoundTrips.{read-written}
 use Rattle.record_writing.specs.declared.Written.TheVariants as record-written
 use Rattle.templates.specs.Template.{encode}
-use Rattle.templates.specs.Reading.{accepted, templateOf}
+use Rattle.templates.specs.Reading.{accepted, template_of}
 use Rattle.template_writing.specs.Writing as template-writing
 use Rattle.template_writing.specs.Written.{read_back}
 use Rattle.template_writing.specs.declared.Written.TheVariants as template-written
-use Rattle.bodies.specs.Reading.{exceeds, ruling, read, judgedBy, pointedBy, placesIf, places_by}
-use Rattle.bodies.specs.Writing.{countFits, judgementBy, writeBy}
+use Rattle.bodies.specs.Reading.{exceeds, ruling, read, judged_by, pointed_by, places_if, places_by}
+use Rattle.bodies.specs.Writing.{count_fits, judgement_by, write_by}
 use Rattle.bodies.specs.Writing as body-writing
-use Rattle.bodies.specs.Demands.{said, pointsRead}
+use Rattle.bodies.specs.Demands.{said, points_read}
 use Rattle.bodies.specs.DemandLaws.{reads-back}
 use Rattle.bodies.specs.declared.Judged.{Judged}
 use Rattle.bodies.specs.declared.Pointed.TheVariants as pointed
 use Rattle.bodies.specs.declared.Verdict.TheVariants as verdict
 use Rattle.bodies.specs.declared.Written.TheVariants as body-written
-use Rattle.turning.specs.Turning.{compacted, templateFor, bodyBytes, bodyJudgement, judgementOf, Turning, turning, putBoth, turned, turn_of}
+use Rattle.turning.specs.Turning.{compacted, template_for, body_bytes, body_judgement, judgement_of, Turning, turning, put_both, turned, turn_of}
 use Rattle.turning.specs.declared.Turned.TheVariants.{Both, Refused}
 use Rattle.turning.specs.Demands.{Turns, full, TemplateReadsBack, BodyReadsBack, SamePlaces, IsBothWriters, TurnsBack, RefusesOnly}
 
@@ -79,16 +79,16 @@ module _ (r : Record) where
 
   -- every stage passed: so the body's writer passes what it is handed without extended data, and there are none
   pub record Passes : Type 0 where
-    pub described : described.judgementOf Compact (compacted r.description) ≡ judgement.Passed
-    pub numbered : judgementBy flags false 0 (length r.points) (laid r) false ≡ judgement.Passed
+    pub described : described.judgement_of Compact (compacted r.description) ≡ judgement.Passed
+    pub numbered : judgement_by flags false 0 (length r.points) (laid r) false ≡ judgement.Passed
     pub alone : present r.extended ≡ false
 
-  not-wanted : (count : ℕ) (numbers : List ℤ) (wanted : Bool) → judgementBy flags false 0 count numbers wanted ≡ judgement.Passed → wanted ≡ false
-  unfolding judgementBy
+  not-wanted : (count : ℕ) (numbers : List ℤ) (wanted : Bool) → judgement_by flags false 0 count numbers wanted ≡ judgement.Passed → wanted ≡ false
+  unfolding judgement_by
   not-wanted count numbers wanted e = let x = stages-passed _ e in not-true wanted (require-passed _ _ x.1.1.0)
 
-  pub passes : judgementOf r ≡ judgement.Passed → Passes
-  unfolding judgementOf bodyJudgement
+  pub passes : judgement_of r ≡ judgement.Passed → Passes
+  unfolding judgement_of body_judgement
   passes e =
       let x = stages-passed _ e in
       let alone = not-wanted (length r.points) (laid r) (present r.extended) x.1.0 in
@@ -96,15 +96,15 @@ module _ (r : Record) where
 
   -- what is put
   abbrev first : List ℕ
-  first = encode (templateFor r)
+  first = encode (template_for r)
 
   abbrev second : List ℕ
-  second = bodyBytes r
+  second = body_bytes r
 
   module _ (template body : List ℕ) where
     -- where there is room for both, and where there is not
-    abbrev pub inRoom : Bool → Turning
-    inRoom room = cond room (turning (Both (length first) (length second)) (puts template 0 first) (puts body 0 second)) (turning (Refused Room) template body)
+    abbrev pub in_room : Bool → Turning
+    in_room room = cond room (turning (Both (length first) (length second)) (puts template 0 first) (puts body 0 second)) (turning (Refused Room) template body)
 
     -- both had room, and the template and the body were put at their starts
     pub record Made (t b : List ℕ) (n m : ℕ) : Type 0 where
@@ -117,7 +117,7 @@ module _ (r : Record) where
       pub body-holds : b ≡ puts body 0 second
 
     by-room : {t b : List ℕ} {n m : ℕ} (one other : Bool) → Passes → leb (length first) (length template) ≡ one → leb (length second) (length body) ≡ other
-        → turning (Both n m) t b ≡ inRoom (one && other) → Made t b n m
+        → turning (Both n m) t b ≡ in_room (one && other) → Made t b n m
     by-room {t} {b} {n} {m} true true p h g e =
         let q = ap (λ x. x.answer) e in
         let y : n ≡ length first = cc in
@@ -137,10 +137,10 @@ module _ (r : Record) where
     by-room false other p h g e = impossible (cc (ap (λ x. x.answer) e))
 
     pub made : {t b : List ℕ} {n m : ℕ} → turning (Both n m) t b ≡ turned r template body → Made t b n m
-    unfolding turned putBoth
-    made {t} {b} {n} {m} e = go (judgementOf r) refl e
+    unfolding turned put_both
+    made {t} {b} {n} {m} e = go (judgement_of r) refl e
       where
-        go : (j : Judgement) → judgementOf r ≡ j → turning (Both n m) t b ≡ putBoth first second template body j → Made t b n m
+        go : (j : Judgement) → judgement_of r ≡ j → turning (Both n m) t b ≡ put_both first second template body j → Made t b n m
         go judgement.Passed h q = by-room (leb (length first) (length template)) (leb (length second) (length body)) (passes h) refl refl q
         go (judgement.Refused refusal) h q = impossible (cc (ap (λ x. x.answer) q))
 
@@ -171,36 +171,36 @@ only-stages [] h = tt
 only-stages (stage ∷ l) h = only-behind stage (stages l) h.0 (only-stages l h.1)
 
 -- numbers that are judged one behind the other are refused with 12, which becomes 21
-only-misfit : (l : List Ranged) → Only (compactly (firstMisfit l))
-unfolding firstMisfit compactly inCompact or_else require
+only-misfit : (l : List Ranged) → Only (compactly (first_misfit l))
+unfolding first_misfit compactly in_compact or_else require
 only-misfit [] = tt
 only-misfit (number ∷ l) = go number.fits (only-misfit l)
   where
-    go : (t : Bool) → Only (compactly (firstMisfit l)) → Only (compactly (or_else (require t (OutOfRange number.name)) (firstMisfit l)))
+    go : (t : Bool) → Only (compactly (first_misfit l)) → Only (compactly (or_else (require t (OutOfRange number.name)) (first_misfit l)))
     go true h = h
     go false h = (number.name, refl)
 
 -- values in their right amount are
-only-values : (w : ℕ) (stored : List Bool) (count : ℕ) (numbers : List ℤ) → length numbers ≡ count * size stored → Only (compactly (values.judgementOf w stored Point count numbers))
-unfolding values.judgementOf or_else require
+only-values : (w : ℕ) (stored : List Bool) (count : ℕ) (numbers : List ℤ) → length numbers ≡ count * size stored → Only (compactly (values.judgement_of w stored Point count numbers))
+unfolding values.judgement_of or_else require
 only-values w stored count numbers h = rw (eq-eqb (length numbers) (count * size stored) h) (only-misfit (values.samples w stored Point count numbers))
 
 -- and a description of which X and Y are included, and which is neat
-only-description : (d : Description) → descriptions.Valid Full d → Only (compactly (described.judgementOf Compact (compacted d)))
-unfolding neatIn isSame includesXY neat
+only-description : (d : Description) → descriptions.Valid Full d → Only (compactly (described.judgement_of Compact (compacted d)))
+unfolding neat_in is_same includes_xy neat
 only-description d v = rw (by-numbers Compact (compacted d) v.xy (tidy-neat d v.tidy)) (only-misfit (described.numbers 1 (compacted d)))
 
 -- without a limit none is exceeded
-only-body : (stored : List Bool) (count : ℕ) (numbers : List ℤ) (wanted : Bool) → length numbers ≡ count * size stored → Only (judgementBy stored false 0 count numbers wanted)
-unfolding judgementBy exceeds require
+only-body : (stored : List Bool) (count : ℕ) (numbers : List ℤ) (wanted : Bool) → length numbers ≡ count * size stored → Only (judgement_by stored false 0 count numbers wanted)
+unfolding judgement_by exceeds require
 only-body stored count numbers wanted h =
     only-stages
     _
-    (only-require (countFits count (width 1 stored)) quantity.Count, (only-values 1 stored count numbers h, (only-require (not wanted) quantity.ExtendedData, (tt, tt))))
+    (only-require (count_fits count (width 1 stored)) quantity.Count, (only-values 1 stored count numbers h, (only-require (not wanted) quantity.ExtendedData, (tt, tt))))
 
 module _ (r : Record) (valid : Valid r) where
-  only-turned : Only (judgementOf r)
-  unfolding judgementOf bodyJudgement
+  only-turned : Only (judgement_of r)
+  unfolding judgement_of body_judgement
   only-turned =
       let flags = stored r.description in
       let sizes = valid-sizes 2 flags r.points valid.points in
@@ -209,20 +209,20 @@ module _ (r : Record) (valid : Valid r) where
       (only-description r.description valid.description, (only-body flags (length r.points) (laid r) (present r.extended) (values-many (size flags) r.points sizes Point), tt))
 
   pub refused-only : (template body : List ℕ) {t b : List ℕ} {refusal : Refusal} → turning (Refused refusal) t b ≡ turned r template body → IsNotCompact refusal ⊎ (refusal ≡ Room)
-  unfolding turned putBoth
-  refused-only template body {t} {b} {refusal} e = go (judgementOf r) only-turned e
+  unfolding turned put_both
+  refused-only template body {t} {b} {refusal} e = go (judgement_of r) only-turned e
     where
-      by_size : (room : Bool) → turning (Refused refusal) t b ≡ inRoom r template body room → refusal ≡ Room
+      by_size : (room : Bool) → turning (Refused refusal) t b ≡ in_room r template body room → refusal ≡ Room
       by_size true q = impossible (cc (ap (λ x. x.answer) q))
       by_size false q = cc (ap (λ x. x.answer) q)
 
-      go : (j : Judgement) → Only j → turning (Refused refusal) t b ≡ putBoth (first r) (second r) template body j → IsNotCompact refusal ⊎ (refusal ≡ Room)
+      go : (j : Judgement) → Only j → turning (Refused refusal) t b ≡ put_both (first r) (second r) template body j → IsNotCompact refusal ⊎ (refusal ≡ Room)
       go judgement.Passed h q = inr (by_size (leb (length (first r)) (length template) && leb (length (second r)) (length body)) q)
       go (judgement.Refused other) h q = let same : refusal ≡ other = cc (ap (λ x. x.answer) q) in inl (h.0, same ∙ h.1)
 
 -- extended data that aren't present have no bytes
-none-there : (e : Option (List ℕ)) → present e ≡ false → extendedBytes e ≡ []
-unfolding present extendedBytes
+none-there : (e : Option (List ℕ)) → present e ≡ false → extended_bytes e ≡ []
+unfolding present extended_bytes
 none-there none h = refl
 none-there (some extended) h = impossible (cc)
 
@@ -247,31 +247,31 @@ module _ {s : List ℕ} {r : Record} {template body t b : List ℕ} {n m : ℕ} 
 
   -- ---- The template
 
-  template-is : t ≡ encode (templateFor r) ++ drop n template
+  template-is : t ≡ encode (template_for r) ++ drop n template
   template-is =
-      let bytes = encode (templateFor r) in
+      let bytes = encode (template_for r) in
       let z : 0 + length bytes ≡ n = omega (arith, result.template-long) in
       result.template-holds ∙ puts-is template 0 bytes (omega (arith, result.template-room)) ∙ ap (λ k. bytes ++ drop k template) z
 
-  template-put : writing (template-written.Done n) t ≡ template-writing.writeOf true (compacted r.description) false 0 template
-  unfolding template-writing.writeOf template-writing.judgementOf template-writing.descriptionStage template-writing.exceeds template-writing.putWhere template-writing.inRoom stages or_else require
+  template-put : writing (template-written.Done n) t ≡ template-writing.write_of true (compacted r.description) false 0 template
+  unfolding template-writing.write_of template-writing.judgement_of template-writing.description_stage template-writing.exceeds template-writing.put_where template-writing.in_room stages or_else require
   template-put = rw (result.passed.described, ← result.template-long, le-leb n (length template) result.template-room) (ap (writing (template-written.Done n)) template-is)
 
-  template-read : templateOf (take n t) ≡ accepted (templateFor r)
+  template-read : template_of (take n t) ≡ accepted (template_for r)
   template-read = (read_back true (compacted r.description) false 0 template valid.description.sixteen (sym template-put)).0
 
   template-kept : drop n t ≡ drop n template
-  template-kept = ap (drop n) template-is ∙ drop_at (encode (templateFor r)) (drop n template) n (sym result.template-long)
+  template-kept = ap (drop n) template-is ∙ drop_at (encode (template_for r)) (drop n template) n (sym result.template-long)
 
   -- ---- The body
 
   -- as its writer puts it by what the template says, and so by the template's bytes
-  body-put : writing (body-written.Body m) b ≡ writeBy (accepted (templateFor r)) count (laid r) false body
-  unfolding writeBy ruling or_else require body-writing.writeRuled body-writing.putWhere
+  body-put : writing (body-written.Body m) b ≡ write_by (accepted (template_for r)) count (laid r) false body
+  unfolding write_by ruling or_else require body-writing.write_ruled body-writing.put_where
   body-put = rw (result.passed.numbered, same_points, ← result.body-long, le-leb m (length body) result.body-room) (ap (writing (body-written.Body m)) result.body-holds)
 
-  body-by : writing (body-written.Body m) b ≡ writeBy (templateOf (take n t)) count (laid r) false body
-  body-by = body-put ∙ ap (λ j. writeBy j count (laid r) false body) (sym template-read)
+  body-by : writing (body-written.Body m) b ≡ write_by (template_of (take n t)) count (laid r) false body
+  body-by = body-put ∙ ap (λ j. write_by j count (laid r) false body) (sym template-read)
 
   abbrev bytes : List ℕ
   bytes = take m b
@@ -279,7 +279,7 @@ module _ {s : List ℕ} {r : Record} {template body t b : List ℕ} {n m : ℕ} 
   abbrev judged : Judged
   judged = record { verdict = verdict.Body count; description = compacted r.description }
 
-  body-judged : judgedBy (templateOf (take n t)) bytes ≡ judged
+  body-judged : judged_by (template_of (take n t)) bytes ≡ judged
   body-judged = (reads-back (take n t) count (laid r) false body m b body-by).0 ∙ ap (λ j. record { verdict = verdict.Body count; description = j.template.description }) template-read
 
   body-read : read (said (take n t)) bytes ≡ ok r.points m
@@ -292,20 +292,20 @@ module _ {s : List ℕ} {r : Record} {template body t b : List ℕ} {n m : ℕ} 
   body_kept = (reads-back (take n t) count (laid r) false body m b body-by).1.1
 
   -- the same, by what the template says
-  judged-read : judgedBy (accepted (templateFor r)) bytes ≡ judged
-  judged-read = ap (λ j. judgedBy j bytes) (sym template-read) ∙ body-judged
+  judged-read : judged_by (accepted (template_for r)) bytes ≡ judged
+  judged-read = ap (λ j. judged_by j bytes) (sym template-read) ∙ body-judged
 
-  points-read : read (templateFor r) bytes ≡ ok r.points m
+  points-read : read (template_for r) bytes ≡ ok r.points m
   points-read = ap (λ j. read j.template bytes) (sym template-read) ∙ body-read
 
   -- ---- Its places
 
-  places-read : (index : ℕ) → places_by index (accepted (templateFor r)) bytes ≡ placesIn index (ok r (length s))
-  unfolding places_by pointedBy placesIn
+  places-read : (index : ℕ) → places_by index (accepted (template_for r)) bytes ≡ places_in index (ok r (length s))
+  unfolding places_by pointed_by places_in
   places-read index = rw judged-read (go (ltb index count))
     where
       go : (there : Bool)
-          → placesIf (cond there pointed.Point (pointed.Refused NoPoint)) index (templateFor r) bytes
+          → places_if (cond there pointed.Point (pointed.Refused NoPoint)) index (template_for r) bytes
           ≡ cond there (places_of (included r.description) channels (get_or r.points index [])) nowhere
       go true = rw points-read
       go false = refl
@@ -316,12 +316,12 @@ module _ {s : List ℕ} {r : Record} {template body t b : List ℕ} {n m : ℕ} 
   marked-full = ap (λ mark. record { channels = r.description.channels; mark = mark }) (sym valid.description.marked)
 
   full-again : (out : List ℕ) → length s ≤ length out
-      → writing (record-written.Record (length s)) (s ++ drop (length s) out) ≡ record-writing.writeOf (full (compacted r.description)) count (laid r) false [] out
+      → writing (record-written.Record (length s)) (s ++ drop (length s) out) ≡ record-writing.write_of (full (compacted r.description)) count (laid r) false [] out
   full-again out room =
       ap (λ l. writing (record-written.Record (length s)) (l ++ drop (length s) out)) (sym (take-length s))
       ∙ sym (read-written Point s x.bytes r (length s) x.whole out room)
-      ∙ ap₂ (λ wanted extended. record-writing.writeOf r.description count (laid r) wanted extended out) result.passed.alone (none-there r.extended result.passed.alone)
-      ∙ ap (λ d. record-writing.writeOf d count (laid r) false [] out) (sym marked-full)
+      ∙ ap₂ (λ wanted extended. record-writing.write_of r.description count (laid r) wanted extended out) result.passed.alone (none-there r.extended result.passed.alone)
+      ∙ ap (λ d. record-writing.write_of d count (laid r) false [] out) (sym marked-full)
 
 -- ---- The claims
 
@@ -335,16 +335,16 @@ pub same-places : SamePlaces
 same-places s r template body t b n m x index =
     ap (λ j. places_by index j (take m b)) (template-read x)
     ∙ places-read x index
-    ∙ ap (placesIn index) (sym x.whole)
+    ∙ ap (places_in index) (sym x.whole)
 
 pub is-both-writers : IsBothWriters
 is-both-writers s r template body t b n m x = (template-put x, body-by x)
 
 pub turns-back : TurnsBack
 turns-back s r template body t b n m x out room =
-    let points = ap pointsRead (body-read x) in
+    let points = ap points_read (body-read x) in
     full-again x out room
-    ∙ ap₂ (λ j points. record-writing.writeOf (full j.template.description) (length points) (values_of Point (size (stored j.template.description)) points) false [] out)
+    ∙ ap₂ (λ j points. record-writing.write_of (full j.template.description) (length points) (values_of Point (size (stored j.template.description)) points) false [] out)
     (sym (template-read x))
     (sym points)
 

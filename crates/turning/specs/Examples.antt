@@ -6,30 +6,30 @@ use Rattle.formats.specs.Reader.{next, run, bind, each, times, one, free, litera
 use Rattle.formats.specs.Number.{number, digits}
 use Rattle.formats.specs.Binary.{binary}
 use Rattle.formats.specs.Put.{puts}
-use Rattle.formats.specs.Writes.{encodeEach}
-use Rattle.refusals.specs.Table.{number_of, inCompact, named, refusalOf}
+use Rattle.formats.specs.Writes.{encode_each}
+use Rattle.refusals.specs.Table.{number_of, in_compact, named, refusal_of}
 use Rattle.refusals.specs.Stages.{require, or_else, stages, compactly}
-use Rattle.refusals.specs.Ranges.{firstMisfit}
+use Rattle.refusals.specs.Ranges.{first_misfit}
 use Rattle.refusals.specs.declared.AttributeName.TheVariants as attribute
 use Rattle.refusals.specs.declared.Where.TheVariants.{At}
 use Rattle.refusals.specs.declared.Quantity.TheVariants as quantity
 use Rattle.refusals.specs.declared.Refusal.{Refusal}
 use Rattle.refusals.specs.declared.Refusal.TheVariants.{Short, XOrY, LeftOver, Room, NotCompact}
-use Rattle.channels.specs.Channel.{signed_of, isSame}
-use Rattle.channels.specs.Stored.{offset, value_of, storedOf, fits}
+use Rattle.channels.specs.Channel.{signed_of, is_same}
+use Rattle.channels.specs.Stored.{offset, value_of, stored_of, fits}
 use Rattle.descriptions.specs.Description as descriptions
-use Rattle.descriptions.specs.Description.{descriptor, includes, channelOf, description, encodeAttribute, descriptorByte, encodeDescriptor, encodeChannel, encodeDescription, includesXY, tidyAttribute, flagless, tidyDescriptor, fitsAttribute, every, neat}
+use Rattle.descriptions.specs.Description.{descriptor, includes, channel_of, description, encode_attribute, descriptor_byte, encode_descriptor, encode_channel, encode_description, includes_xy, tidy_attribute, flagless, tidy_descriptor, fits_attribute, every, neat}
 use Rattle.description_judging.specs.Judging as described
-use Rattle.description_judging.specs.Judging.{numbersOf, neatIn}
-use Rattle.points.specs.Points.{storedFrom, channels, sample, point, widths, width, encodeSample, encodePoint, fitsSample}
+use Rattle.description_judging.specs.Judging.{numbers_of, neat_in}
+use Rattle.points.specs.Points.{stored_from, channels, sample, point, widths, width, encode_sample, encode_point, fits_sample}
 use Rattle.orders.specs.Orders.{step, stride, values_of}
 use Rattle.values.specs.Values as values
-use Rattle.values.specs.Values.{samplesIn, samplesFrom, samples}
-use Rattle.records.specs.Record.{extension, fullRecord, present}
-use Rattle.templates.specs.Template.{encodeDescribed, encodeLimited, encode}
+use Rattle.values.specs.Values.{samples_in, samples_from, samples}
+use Rattle.records.specs.Record.{extension, full_record, present}
+use Rattle.templates.specs.Template.{encode_described, encode_limited, encode}
 use Rattle.bodies.specs.Reading.{exceeds}
-use Rattle.bodies.specs.Writing.{countFits, judgementBy}
-use Rattle.turning.specs.Turning.{Turning, turning, bodyJudgement, judgementOf, putBoth, turned, turn_of}
+use Rattle.bodies.specs.Writing.{count_fits, judgement_by}
+use Rattle.turning.specs.Turning.{Turning, turning, body_judgement, judgement_of, put_both, turned, turn_of}
 use Rattle.turning.specs.declared.Turned.{Turned}
 use Rattle.turning.specs.declared.Turned.TheVariants.{Both, Refused}
 
@@ -38,8 +38,8 @@ use Rattle.turning.specs.declared.Turned.TheVariants.{Both, Refused}
 -- some bytes, room for a template and for a body; what is answered and what the outputs hold then, and the refusal's number, which is 0 where nothing was refused
 record Example : Type 0 where
   bytes : List ℕ
-  forTemplate : ℕ
-  forBody : ℕ
+  for_template : ℕ
+  for_body : ℕ
   number : ℕ
   answer : Turning
 
@@ -47,26 +47,26 @@ abbrev numbered : Turned → ℕ
 numbered (Both template body) = 0
 numbered (Refused refusal) = number_of refusal
 
-abbrev example : (bytes : List ℕ) (forTemplate forBody : ℕ) → Turning → Example
-example bytes forTemplate forBody answer = record { bytes = bytes; forTemplate = forTemplate; forBody = forBody; number = numbered answer.answer; answer = answer }
+abbrev example : (bytes : List ℕ) (for_template for_body : ℕ) → Turning → Example
+example bytes for_template for_body answer = record { bytes = bytes; for_template = for_template; for_body = for_body; number = numbered answer.answer; answer = answer }
 
 -- what an output holds before
 abbrev untouched : (room : ℕ) → List ℕ
 untouched room = replicate room 0xAA
 
 -- a template and a body are made, and behind them the outputs are as they were
-abbrev makes : (bytes : List ℕ) (forTemplate forBody : ℕ) (template body : List ℕ) → Example
-makes bytes forTemplate forBody template body = record {
+abbrev makes : (bytes : List ℕ) (for_template for_body : ℕ) (template body : List ℕ) → Example
+makes bytes for_template for_body template body = record {
   bytes = bytes;
-  forTemplate = forTemplate;
-  forBody = forBody;
+  for_template = for_template;
+  for_body = for_body;
   number = 0;
-  answer = turning (Both (length template) (length body)) (template ++ untouched (forTemplate - length template)) (body ++ untouched (forBody - length body));
+  answer = turning (Both (length template) (length body)) (template ++ untouched (for_template - length template)) (body ++ untouched (for_body - length body));
 }
 
 -- a refusal, by its number, leaves both as they were
-abbrev refuses : (bytes : List ℕ) (forTemplate forBody number : ℕ) → Refusal → Example
-refuses bytes forTemplate forBody number refusal = record { bytes = bytes; forTemplate = forTemplate; forBody = forBody; number = number; answer = turning (Refused refusal) (untouched forTemplate) (untouched forBody) }
+abbrev refuses : (bytes : List ℕ) (for_template for_body number : ℕ) → Refusal → Example
+refuses bytes for_template for_body number refusal = record { bytes = bytes; for_template = for_template; for_body = for_body; number = number; answer = turning (Refused refusal) (untouched for_template) (untouched for_body) }
 
 -- ---- The table
 
@@ -100,13 +100,13 @@ table =
 
 -- an example as the function answers it
 abbrev found : Example → Example
-found e = example e.bytes e.forTemplate e.forBody (turn_of (length e.bytes) (run fullRecord e.bytes) (untouched e.forTemplate) (untouched e.forBody))
+found e = example e.bytes e.for_template e.for_body (turn_of (length e.bytes) (run full_record e.bytes) (untouched e.for_template) (untouched e.for_body))
 
 pub examples : map found table ≡ table
-unfolding run next bind reader.map each times one free literal number digits value_of offset storedOf fits signed_of isSame
-    descriptions.attribute descriptor includes channelOf description storedFrom channels sample point extension fullRecord present named refusalOf
-    require or_else stages compactly inCompact firstMisfit numbersOf described.numbersFrom described.numbers neatIn described.judgementOf includesXY tidyAttribute flagless tidyDescriptor fitsAttribute every neat
-    widths width fitsSample step stride values_of samplesIn samplesFrom samples values.judgementOf exceeds countFits judgementBy
-    binary encodeAttribute descriptorByte encodeDescriptor encodeChannel encodeDescription encodeEach encodeDescribed encodeLimited encode encodeSample encodePoint flatten flat_map puts
-    bodyJudgement judgementOf putBoth turned turn_of
+unfolding run next bind reader.map each times one free literal number digits value_of offset stored_of fits signed_of is_same
+    descriptions.attribute descriptor includes channel_of description stored_from channels sample point extension full_record present named refusal_of
+    require or_else stages compactly in_compact first_misfit numbers_of described.numbers_from described.numbers neat_in described.judgement_of includes_xy tidy_attribute flagless tidy_descriptor fits_attribute every neat
+    widths width fits_sample step stride values_of samples_in samples_from samples values.judgement_of exceeds count_fits judgement_by
+    binary encode_attribute descriptor_byte encode_descriptor encode_channel encode_description encode_each encode_described encode_limited encode encode_sample encode_point flatten flat_map puts
+    body_judgement judgement_of put_both turned turn_of
 examples = refl

@@ -7,18 +7,18 @@ use Rattle.refusals.specs.declared.Judgement.{Judgement}
 use Rattle.refusals.specs.declared.Judgement.TheVariants.{Passed}
 use Rattle.channels.specs.declared.Place.{Place}
 use Rattle.channels.specs.declared.Place.TheVariants.{Absent, Constant, Number}
-use Rattle.points.specs.Points.{fitsSample}
-use Rattle.values.specs.Values.{sampleBytes}
+use Rattle.points.specs.Points.{fits_sample}
+use Rattle.values.specs.Values.{sample_bytes}
 
 -- from channel i on, where the next number has this index among all
-unfoldable pub misfitIn : (i from : ℕ) → List Place → Judgement
-misfitIn i from [] = Passed
-misfitIn i from (Absent ∷ places) = misfitIn (suc i) from places
-misfitIn i from (Constant ∷ places) = misfitIn (suc i) from places
-misfitIn i from (Number v ∷ places) = or_else (require (fitsSample 1 i v) (OutOfRange (Value from i))) (misfitIn (suc i) (suc from) places)
+unfoldable pub misfit_in : (i from : ℕ) → List Place → Judgement
+misfit_in i from [] = Passed
+misfit_in i from (Absent ∷ places) = misfit_in (suc i) from places
+misfit_in i from (Constant ∷ places) = misfit_in (suc i) from places
+misfit_in i from (Number v ∷ places) = or_else (require (fits_sample 1 i v) (OutOfRange (Value from i))) (misfit_in (suc i) (suc from) places)
 
-unfoldable pub bytesIn : (i : ℕ) → List Place → List ℕ
-bytesIn i [] = []
-bytesIn i (Absent ∷ places) = bytesIn (suc i) places
-bytesIn i (Constant ∷ places) = bytesIn (suc i) places
-bytesIn i (Number v ∷ places) = sampleBytes 1 i v ++ bytesIn (suc i) places
+unfoldable pub bytes_in : (i : ℕ) → List Place → List ℕ
+bytes_in i [] = []
+bytes_in i (Absent ∷ places) = bytes_in (suc i) places
+bytes_in i (Constant ∷ places) = bytes_in (suc i) places
+bytes_in i (Number v ∷ places) = sample_bytes 1 i v ++ bytes_in (suc i) places

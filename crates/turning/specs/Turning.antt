@@ -4,7 +4,7 @@ use Rattle.formats.specs.Put.{puts}
 use Rattle.formats.specs.Reader.{Answer, ok, short, bad}
 use Rattle.formats.specs.declared.Failure.TheVariants.{Short, Bad}
 use Rattle.refusals.specs.Stages.{stages, compactly}
-use Rattle.refusals.specs.Table.{refusalOf}
+use Rattle.refusals.specs.Table.{refusal_of}
 use Rattle.refusals.specs.declared.Refusal.TheVariants.{LeftOver, Room}
 use Rattle.refusals.specs.declared.Judgement.{Judgement}
 use Rattle.refusals.specs.declared.Judgement.TheVariants as judgement
@@ -18,8 +18,8 @@ use Rattle.records.specs.Record.{Record, present}
 use Rattle.templates.specs.Template.{encode}
 use Rattle.templates.specs.Reading.{saying}
 use Rattle.templates.specs.declared.Template.{Template}
-use Rattle.bodies.specs.Body.{encodeBody}
-use Rattle.bodies.specs.Writing.{judgementBy}
+use Rattle.bodies.specs.Body.{encode_body}
+use Rattle.bodies.specs.Writing.{judgement_by}
 use Rattle.turning.specs.declared.Turned.{Turned}
 use Rattle.turning.specs.declared.Turned.TheVariants.{Both, Refused}
 
@@ -30,24 +30,24 @@ abbrev pub compacted : Description → Description
 compacted d = record { channels = d.channels; mark = Compact }
 
 -- a template of 81 alone
-abbrev pub templateFor : Record → Template
-templateFor r = saying true (compacted r.description) false 0
+abbrev pub template_for : Record → Template
+template_for r = saying true (compacted r.description) false 0
 
 -- and a body of its points, T too as it stands
-abbrev pub bodyBytes : Record → List ℕ
-bodyBytes r = encodeBody (stored r.description) r.points
+abbrev pub body_bytes : Record → List ℕ
+body_bytes r = encode_body (stored r.description) r.points
 
 -- ---- What keeps it from being turned: the stages of the template's writer and of the body's, with 21 for 12
 
 -- the body's writer, without a limit, is handed the record's count and numbers; extended data that are present are wanted
-unfoldable pub bodyJudgement : (stored : List Bool) (count : ℕ) (points : List (List ℤ)) (extended : Bool) → Judgement
-bodyJudgement stored count points extended = judgementBy stored false 0 count (values_of Point (size stored) points) extended
+unfoldable pub body_judgement : (stored : List Bool) (count : ℕ) (points : List (List ℤ)) (extended : Bool) → Judgement
+body_judgement stored count points extended = judgement_by stored false 0 count (values_of Point (size stored) points) extended
 
-abbrev pub judgedBody : Record → Judgement
-judgedBody r = bodyJudgement (stored r.description) (length r.points) r.points (present r.extended)
+abbrev pub judged_body : Record → Judgement
+judged_body r = body_judgement (stored r.description) (length r.points) r.points (present r.extended)
 
-unfoldable pub judgementOf : Record → Judgement
-judgementOf r = stages (compactly (described.judgementOf Compact (compacted r.description)) ∷ judgedBody r ∷ [])
+unfoldable pub judgement_of : Record → Judgement
+judgement_of r = stages (compactly (described.judgement_of Compact (compacted r.description)) ∷ judged_body r ∷ [])
 
 -- ---- What becomes of the outputs
 
@@ -61,19 +61,19 @@ abbrev pub turning : Turned → (template body : List ℕ) → Turning
 turning answer template body = record { answer = answer; template = template; body = body }
 
 -- both are put where both have room: else, and on a refusal, both outputs stay as they were
-unfoldable pub putBoth : (described points template body : List ℕ) → Judgement → Turning
-putBoth described points template body judgement.Passed =
+unfoldable pub put_both : (described points template body : List ℕ) → Judgement → Turning
+put_both described points template body judgement.Passed =
     cond
     (leb (length described) (length template) && leb (length points) (length body))
     (turning (Both (length described) (length points)) (puts template 0 described) (puts body 0 points))
     (turning (Refused Room) template body)
-putBoth described points template body (judgement.Refused refusal) = turning (Refused refusal) template body
+put_both described points template body (judgement.Refused refusal) = turning (Refused refusal) template body
 
 unfoldable pub turned : Record → (template body : List ℕ) → Turning
-turned r template body = putBoth (encode (templateFor r)) (bodyBytes r) template body (judgementOf r)
+turned r template body = put_both (encode (template_for r)) (body_bytes r) template body (judgement_of r)
 
 -- by what reading a slice of `size` bytes answers: the slice's own refusals come first
 unfoldable pub turn_of : (size : ℕ) → Answer Record → (template body : List ℕ) → Turning
 turn_of size (ok r n) template body = cond (ltb n size) (turning (Refused (LeftOver n)) template body) (turned r template body)
-turn_of size short template body = turning (Refused (refusalOf Short)) template body
-turn_of size (bad k p) template body = turning (Refused (refusalOf (Bad k p))) template body
+turn_of size short template body = turning (Refused (refusal_of Short)) template body
+turn_of size (bad k p) template body = turning (Refused (refusal_of (Bad k p))) template body

@@ -1,15 +1,15 @@
 // Turning (request L4): a full record made a compact template of 81 alone and a body.
 ghost use Rattle.std.specs.Prelude.{◌≡◌, List, [], ◌∷◌, ℕ, ◌*◌, ◌≤◌, ◌<◌, ℤ, length};
-ghost use Rattle.formats.specs.Reader.{ok, run, readAt, times};
+ghost use Rattle.formats.specs.Reader.{ok, run, read_at, times};
 ghost use Rattle.formats.specs.Laid.{Room, Laid};
-ghost use Rattle.refusals.specs.Ranges.{firstMisfit};
-ghost use Rattle.points.specs.Points.{point, width as pointWidth};
+ghost use Rattle.refusals.specs.Ranges.{first_misfit};
+ghost use Rattle.points.specs.Points.{point, width as point_width};
 ghost use Rattle.orders.specs.Orders.{size, values_of};
 ghost use Rattle.orders.specs.declared.Order.TheVariants as order;
-ghost use Rattle.values.specs.Values.{samples, sampleBytes, bytes_of};
-ghost use Rattle.records.specs.Record.{Record, fullRecord};
-ghost use Rattle.turning.specs.Turning.{compacted, turning, bodyJudgement, judgedBody, bodyBytes, putBoth, turned, turn_of};
-ghost use Rattle.turning.specs.Parts.{misfitIn, bytesIn};
+ghost use Rattle.values.specs.Values.{samples, sample_bytes, bytes_of};
+ghost use Rattle.records.specs.Record.{Record, full_record};
+ghost use Rattle.turning.specs.Turning.{compacted, turning, body_judgement, judged_body, body_bytes, put_both, turned, turn_of};
+ghost use Rattle.turning.specs.Parts.{misfit_in, bytes_in};
 
 use channels::{Description, Format, Place, Stored};
 use record_reading::Verdict;
@@ -29,7 +29,7 @@ fn compact(description: Description) -> Description
 // The first number of a sample point that one byte doesn't hold, by its index among all numbers and its channel.
 fn judge_places(places: [Place; 16], from: usize) -> Judgement
     requires { from < 68719476736 }
-    ensures { result ≡ misfitIn 0 from places }
+    ensures { result ≡ misfit_in 0 from places }
 {
     let mut index = from;
     let mut channel: usize = 0;
@@ -54,8 +54,8 @@ fn judge_places(places: [Place; 16], from: usize) -> Judgement
 
 // The same of all points of a record, which stand from a place on and were judged.
 fn judge_points(whole: &[u8], start: usize, stored: [bool; 16], count: usize) -> Judgement
-    requires { (start ≤ length whole.now) × (count < 4294967296) × ((points : List (List ℤ)) × (end : ℕ) × (readAt (times count (point 2 stored)) whole.now start ≡ ok points end)) }
-    ensures { (points : List (List ℤ)) (end : ℕ) → readAt (times count (point 2 stored)) whole.now start ≡ ok points end → result ≡ firstMisfit (samples 1 stored order.Point count (values_of order.Point (size stored) points)) }
+    requires { (start ≤ length whole.now) × (count < 4294967296) × ((points : List (List ℤ)) × (end : ℕ) × (read_at (times count (point 2 stored)) whole.now start ≡ ok points end)) }
+    ensures { (points : List (List ℤ)) (end : ℕ) → read_at (times count (point 2 stored)) whole.now start ≡ ok points end → result ≡ first_misfit (samples 1 stored order.Point count (values_of order.Point (size stored) points)) }
 {
     let width = points::width(Format::Full, stored);
     let size = orders::size(stored);
@@ -83,8 +83,8 @@ fn judge_body(
     count: usize,
     extended: bool,
 ) -> Judgement
-    requires { (start ≤ length whole.now) × (count < 4294967296) × ((points : List (List ℤ)) × (end : ℕ) × (readAt (times count (point 2 stored)) whole.now start ≡ ok points end)) }
-    ensures { (points : List (List ℤ)) (end : ℕ) → readAt (times count (point 2 stored)) whole.now start ≡ ok points end → result ≡ bodyJudgement stored count points extended }
+    requires { (start ≤ length whole.now) × (count < 4294967296) × ((points : List (List ℤ)) × (end : ℕ) × (read_at (times count (point 2 stored)) whole.now start ≡ ok points end)) }
+    ensures { (points : List (List ℤ)) (end : ℕ) → read_at (times count (point 2 stored)) whole.now start ≡ ok points end → result ≡ body_judgement stored count points extended }
 {
     if !bodies::count_fits(count, points::width(Format::Compact, stored)) {
         return Judgement::Refused(Refusal::NotCompact {
@@ -105,7 +105,7 @@ fn judge_body(
 
 // The byte of a number in a body. A number that one byte doesn't hold, which `judge_points` tells, has a zero.
 fn byte_of(channel: usize, value: i32) -> u8
-    ensures { result ∷ [] ≡ sampleBytes 1 channel value }
+    ensures { result ∷ [] ≡ sample_bytes 1 channel value }
 {
     match values::stored_sample(Format::Compact, channel, value) {
         Stored::Number(number) => (number % 256) as u8,
@@ -115,8 +115,8 @@ fn byte_of(channel: usize, value: i32) -> u8
 
 // A sample point is put from a place on, and where it ends is answered.
 fn put_places(out: &mut [u8], start: usize, places: [Place; 16]) -> usize
-    requires { Room out.old start (bytesIn 0 places) }
-    ensures { Laid out.old start (bytesIn 0 places) out.new result }
+    requires { Room out.old start (bytes_in 0 places) }
+    ensures { Laid out.old start (bytes_in 0 places) out.new result }
 {
     let mut at = start;
     let mut channel: usize = 0;
@@ -133,8 +133,8 @@ fn put_places(out: &mut [u8], start: usize, places: [Place; 16]) -> usize
 
 // All points of a record are put as a body, from the output's start on.
 fn put_points(whole: &[u8], start: usize, stored: [bool; 16], count: usize, out: &mut [u8])
-    requires { (start ≤ length whole.now) × (count * pointWidth 1 stored ≤ length out.old) × ((points : List (List ℤ)) × (end : ℕ) × (readAt (times count (point 2 stored)) whole.now start ≡ ok points end)) }
-    ensures { (points : List (List ℤ)) (end : ℕ) → readAt (times count (point 2 stored)) whole.now start ≡ ok points end → Laid out.old 0 (bytes_of 1 stored points) out.new (count * pointWidth 1 stored) }
+    requires { (start ≤ length whole.now) × (count * point_width 1 stored ≤ length out.old) × ((points : List (List ℤ)) × (end : ℕ) × (read_at (times count (point 2 stored)) whole.now start ≡ ok points end)) }
+    ensures { (points : List (List ℤ)) (end : ℕ) → read_at (times count (point 2 stored)) whole.now start ≡ ok points end → Laid out.old 0 (bytes_of 1 stored points) out.new (count * point_width 1 stored) }
 {
     let width = points::width(Format::Full, stored);
     let mut at = start;
@@ -157,8 +157,8 @@ pub enum Turned {
 
 // The stages behind the description's, from the bytes of the template, and the room of both; only then is a byte put.
 fn turn_described(whole: &[u8], described: &[u8], template: &mut [u8], body: &mut [u8]) -> Turned
-    requires { (r : Record) × (run fullRecord whole.now ≡ ok r (length whole.now)) }
-    ensures { (r : Record) → run fullRecord whole.now ≡ ok r (length whole.now) → turning result template.new body.new ≡ putBoth described.now (bodyBytes r) template.old body.old (judgedBody r) }
+    requires { (r : Record) × (run full_record whole.now ≡ ok r (length whole.now)) }
+    ensures { (r : Record) → run full_record whole.now ≡ ok r (length whole.now) → turning result template.new body.new ≡ put_both described.now (body_bytes r) template.old body.old (judged_body r) }
 {
     let heading = record_fronts::front_at(whole, 0);
     let front = heading.front;
@@ -188,8 +188,8 @@ fn turn_whole(
     template: &mut [u8],
     body: &mut [u8],
 ) -> Turned
-    requires { (r : Record) × (run fullRecord whole.now ≡ ok r (length whole.now)) × (description ≡ r.description) }
-    ensures { (r : Record) → run fullRecord whole.now ≡ ok r (length whole.now) → description ≡ r.description → turning result template.new body.new ≡ turned r template.old body.old }
+    requires { (r : Record) × (run full_record whole.now ≡ ok r (length whole.now)) × (description ≡ r.description) }
+    ensures { (r : Record) → run full_record whole.now ≡ ok r (length whole.now) → description ≡ r.description → turning result template.new body.new ≡ turned r template.old body.old }
 {
     let mut room: [u8; 118] = [0; 118]; // two heads of two bytes, two inclusion bytes, and seven for each of sixteen channels
     let compact = compact(description);
@@ -207,7 +207,7 @@ fn turn_whole(
 // A full record, which is the whole slice, is made a template and a body, each at the start of an output of its own.
 // On a refusal neither output changes; on success only their first bytes do.
 pub fn turn(whole: &[u8], template: &mut [u8], body: &mut [u8]) -> Turned
-    ensures { turning result template.new body.new ≡ turn_of (length whole.now) (run fullRecord whole.now) template.old body.old }
+    ensures { turning result template.new body.new ≡ turn_of (length whole.now) (run full_record whole.now) template.old body.old }
 {
     let judged = record_reading::judge_whole(whole);
     let verdict = judged.verdict;

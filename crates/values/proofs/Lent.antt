@@ -10,29 +10,29 @@ use lib.Dec.{eqb, leb}
 use lib.IntN.{ℤ, pos}
 use lib.ListN.{length, get_or, drop}
 use Rattle.formats.specs.Bytes.{impossible}
-use Rattle.formats.specs.Writes.{encodeEach}
+use Rattle.formats.specs.Writes.{encode_each}
 use Rattle.formats.specs.Put.{puts}
 use Rattle.formats.specs.Lent.{Writing, writing}
 use Rattle.formats.specs.Laid.{Room, Laid, Owed, laid_none}
 use Rattle.refusals.specs.Stages.{require, or_else}
-use Rattle.refusals.specs.Ranges.{firstMisfit}
+use Rattle.refusals.specs.Ranges.{first_misfit}
 use Rattle.refusals.specs.RangeLaws.{joined}
 use Rattle.refusals.specs.declared.Quantity.TheVariants.{Value}
 use Rattle.refusals.specs.declared.Refusal.TheVariants.{OutOfRange, Amount}
 use Rattle.refusals.specs.declared.Judgement.{Judgement}
 use Rattle.refusals.specs.declared.Judgement.TheVariants.{Passed, Refused}
 use Rattle.channels.specs.Channel.{S, signed_of}
-use Rattle.channels.specs.Stored.{fits, storedOf, storedIf}
-use Rattle.tip_switch.specs.Switch.{isState, byte_of, byteIf}
+use Rattle.channels.specs.Stored.{fits, stored_of, stored_if}
+use Rattle.tip_switch.specs.Switch.{is_state, byte_of, byte_if}
 use Rattle.channels.specs.declared.Stored.TheVariants.{Number, Outside}
-use Rattle.points.specs.Points.{storedFrom, channels, fitsSample, width}
-use Rattle.orders.specs.Orders.{size, step, stride, numbersFrom, pointsFrom, points_of}
+use Rattle.points.specs.Points.{stored_from, channels, fits_sample, width}
+use Rattle.orders.specs.Orders.{size, step, stride, numbers_from, points_from, points_of}
 use Rattle.orders.specs.OrderLaws.{index-within, step-within}
 use Rattle.orders.specs.Parts.{many, AllAt}
 use Rattle.orders.proofs.Left.{many-out, many-in}
-use Rattle.values.specs.Values.{samplesIn, samplesFrom, samples, judgementOf, storedSample, sampleBytes, bytes_of, put_of}
+use Rattle.values.specs.Values.{samples_in, samples_from, samples, judgement_of, stored_sample, sample_bytes, bytes_of, put_of}
 use Rattle.values.specs.ValueLaws.{points-bytes}
-use Rattle.values.specs.Parts.{Inside, pointBytes, pointsBytes, bytesLeft}
+use Rattle.values.specs.Parts.{Inside, point_bytes, points_bytes, bytes_left}
 use Rattle.orders.specs.declared.Order.{Order}
 use Rattle.orders.specs.declared.Order.TheVariants.{Point, Column}
 use Rattle.points.proofs.Samples.{stored-in, stored-out, stored-none}
@@ -40,30 +40,30 @@ use Rattle.points.proofs.Samples.{stored-in, stored-out, stored-none}
 -- ---- One number
 
 module _ (w channel : ℕ) (v : ℤ) where
-  pub stored-switch : channel ≡ S → storedSample w channel v ≡ byteIf v
-  unfolding storedSample
+  pub stored-switch : channel ≡ S → stored_sample w channel v ≡ byte_if v
+  unfolding stored_sample
   stored-switch e = rw (eq-eqb channel S e)
 
-  pub stored_other : (channel ≡ S → ⊥) → storedSample w channel v ≡ storedIf w (signed_of channel) v
-  unfolding storedSample
+  pub stored_other : (channel ≡ S → ⊥) → stored_sample w channel v ≡ stored_if w (signed_of channel) v
+  unfolding stored_sample
   stored_other e = rw (ne_eqb channel S e)
 
   -- what is stored says whether it fits
-  pub fits-number : {n : ℕ} → storedSample w channel v ≡ Number n → fitsSample w channel v ≡ true
-  unfolding storedSample fitsSample byteIf storedIf
-  fits-number {n} e = go (eqb channel S) (isState v) (fits w (signed_of channel) v) e
+  pub fits-number : {n : ℕ} → stored_sample w channel v ≡ Number n → fits_sample w channel v ≡ true
+  unfolding stored_sample fits_sample byte_if stored_if
+  fits-number {n} e = go (eqb channel S) (is_state v) (fits w (signed_of channel) v) e
     where
-      go : (t a b : Bool) → cond t (cond a (Number (byte_of v)) Outside) (cond b (Number (storedOf w (signed_of channel) v)) Outside) ≡ Number n → cond t a b ≡ true
+      go : (t a b : Bool) → cond t (cond a (Number (byte_of v)) Outside) (cond b (Number (stored_of w (signed_of channel) v)) Outside) ≡ Number n → cond t a b ≡ true
       go true true b q = refl
       go true false b q = impossible (cc)
       go false a true q = refl
       go false a false q = impossible (cc)
 
-  pub fits-outside : storedSample w channel v ≡ Outside → fitsSample w channel v ≡ false
-  unfolding storedSample fitsSample byteIf storedIf
-  fits-outside e = go (eqb channel S) (isState v) (fits w (signed_of channel) v) e
+  pub fits-outside : stored_sample w channel v ≡ Outside → fits_sample w channel v ≡ false
+  unfolding stored_sample fits_sample byte_if stored_if
+  fits-outside e = go (eqb channel S) (is_state v) (fits w (signed_of channel) v) e
     where
-      go : (t a b : Bool) → cond t (cond a (Number (byte_of v)) Outside) (cond b (Number (storedOf w (signed_of channel) v)) Outside) ≡ Outside → cond t a b ≡ false
+      go : (t a b : Bool) → cond t (cond a (Number (byte_of v)) Outside) (cond b (Number (stored_of w (signed_of channel) v)) Outside) ≡ Outside → cond t a b ≡ false
       go true true b q = impossible (cc)
       go true false b q = refl
       go false a true q = impossible (cc)
@@ -119,35 +119,35 @@ module _ (values : List ℤ) (d : ℕ) (stored : List Bool) (i at : ℕ) (h : i 
 
 module _ (w d : ℕ) (stored : List Bool) (values : List ℤ) where
   -- how they are judged
-  unfoldable pub judgeLeft : ℕ → ℕ → Judgement
-  judgeLeft i at = firstMisfit (samplesIn w d (storedFrom i (drop i stored)) values at)
+  unfoldable pub judge_left : ℕ → ℕ → Judgement
+  judge_left i at = first_misfit (samples_in w d (stored_from i (drop i stored)) values at)
 
   -- a channel that isn't stored is passed
   module _ (i at : ℕ) (h : i < length stored) (e : get_or stored i false ≡ false) where
-    pub pass-judged : judgeLeft i at ≡ judgeLeft (i + 1) at
-    unfolding judgeLeft
+    pub pass-judged : judge_left i at ≡ judge_left (i + 1) at
+    unfolding judge_left
     pass-judged = rw (stored-out stored i h e)
 
-    pub pass-bytes : bytesLeft w d stored values i at ≡ bytesLeft w d stored values (i + 1) at
-    unfolding bytesLeft
+    pub pass-bytes : bytes_left w d stored values i at ≡ bytes_left w d stored values (i + 1) at
+    unfolding bytes_left
     pass-bytes = rw (stored-out stored i h e)
 
   -- a channel that is stored takes a number
   module _ (i at : ℕ) (h : i < length stored) (e : get_or stored i false ≡ true) where
-    pub take-judged : judgeLeft i at ≡ or_else (require (fitsSample w i (get_or values at (pos 0))) (OutOfRange (Value at i))) (judgeLeft (i + 1) (at + d))
-    unfolding judgeLeft samplesIn firstMisfit
+    pub take-judged : judge_left i at ≡ or_else (require (fits_sample w i (get_or values at (pos 0))) (OutOfRange (Value at i))) (judge_left (i + 1) (at + d))
+    unfolding judge_left samples_in first_misfit
     take-judged = rw (stored-in stored i h e)
 
-    pub take-bytes : bytesLeft w d stored values i at ≡ sampleBytes w i (get_or values at (pos 0)) ++ bytesLeft w d stored values (i + 1) (at + d)
-    unfolding bytesLeft pointBytes encodeEach numbersFrom
+    pub take-bytes : bytes_left w d stored values i at ≡ sample_bytes w i (get_or values at (pos 0)) ++ bytes_left w d stored values (i + 1) (at + d)
+    unfolding bytes_left point_bytes encode_each numbers_from
     take-bytes = rw (stored-in stored i h e)
 
-  pub judged-none : (i at : ℕ) → length stored ≤ i → judgeLeft i at ≡ Passed
-  unfolding judgeLeft samplesIn firstMisfit
+  pub judged-none : (i at : ℕ) → length stored ≤ i → judge_left i at ≡ Passed
+  unfolding judge_left samples_in first_misfit
   judged-none i at h = rw (stored-none stored i h)
 
-  pub bytes-none : (i at : ℕ) → length stored ≤ i → bytesLeft w d stored values i at ≡ []
-  unfolding bytesLeft pointBytes encodeEach
+  pub bytes-none : (i at : ℕ) → length stored ≤ i → bytes_left w d stored values i at ≡ []
+  unfolding bytes_left point_bytes encode_each
   bytes-none i at h = rw (stored-none stored i h)
 
 -- what a run of channels leaves is left of what was to be laid before it
@@ -172,24 +172,24 @@ module _ (w d : ℕ) (l : List ℕ) (values : List ℤ) (p n i from : ℕ) (h : 
   count : n - i ≡ suc (n - (i + 1))
   count = omega arith
 
-  pub next-judged : firstMisfit (samplesFrom w d l values p (n - i) from) ≡ or_else (firstMisfit (samplesIn w d l values from)) (firstMisfit (samplesFrom w d l values p (n - (i + 1)) (from + p)))
-  unfolding samplesFrom
-  next-judged = rw count (joined (samplesIn w d l values from) (samplesFrom w d l values p (n - (i + 1)) (from + p)))
+  pub next-judged : first_misfit (samples_from w d l values p (n - i) from) ≡ or_else (first_misfit (samples_in w d l values from)) (first_misfit (samples_from w d l values p (n - (i + 1)) (from + p)))
+  unfolding samples_from
+  next-judged = rw count (joined (samples_in w d l values from) (samples_from w d l values p (n - (i + 1)) (from + p)))
 
-  pub next-bytes : pointsBytes w d l values p (n - i) from ≡ pointBytes w d l values from ++ pointsBytes w d l values p (n - (i + 1)) (from + p)
-  unfolding pointsBytes pointBytes pointsFrom flat_map
+  pub next-bytes : points_bytes w d l values p (n - i) from ≡ point_bytes w d l values from ++ points_bytes w d l values p (n - (i + 1)) (from + p)
+  unfolding points_bytes point_bytes points_from flat_map
   next-bytes = rw count
 
 module _ (w d : ℕ) (l : List ℕ) (values : List ℤ) (p n i from : ℕ) (h : n ≤ i) where
   over : n - i ≡ 0
   over = omega arith
 
-  pub last-judged : firstMisfit (samplesFrom w d l values p (n - i) from) ≡ Passed
-  unfolding samplesFrom firstMisfit
+  pub last-judged : first_misfit (samples_from w d l values p (n - i) from) ≡ Passed
+  unfolding samples_from first_misfit
   last-judged = rw over
 
-  pub last-bytes : pointsBytes w d l values p (n - i) from ≡ []
-  unfolding pointsBytes pointsFrom flat_map
+  pub last-bytes : points_bytes w d l values p (n - i) from ≡ []
+  unfolding points_bytes points_from flat_map
   last-bytes = rw over
 
 -- ---- The stages
@@ -198,13 +198,13 @@ no-numbers : (l : List ℕ) → length l ≡ 0 → l ≡ []
 no-numbers [] e = refl
 no-numbers (channel ∷ l) e = absurd (omega arith)
 
-nothing-judged : (w d : ℕ) (values : List ℤ) (p n from : ℕ) → firstMisfit (samplesFrom w d [] values p n from) ≡ Passed
-unfolding samplesFrom samplesIn firstMisfit
+nothing-judged : (w d : ℕ) (values : List ℤ) (p n from : ℕ) → first_misfit (samples_from w d [] values p n from) ≡ Passed
+unfolding samples_from samples_in first_misfit
 nothing-judged w d values p zero from = refl
 nothing-judged w d values p (suc n) from = nothing-judged w d values p n (from + p)
 
-nothing_put : (w d : ℕ) (values : List ℤ) (p n from : ℕ) → pointsBytes w d [] values p n from ≡ []
-unfolding pointsBytes pointsFrom flat_map encodeEach
+nothing_put : (w d : ℕ) (values : List ℤ) (p n from : ℕ) → points_bytes w d [] values p n from ≡ []
+unfolding points_bytes points_from flat_map encode_each
 nothing_put w d values p zero from = refl
 nothing_put w d values p (suc n) from = nothing_put w d values p n (from + p)
 
@@ -213,14 +213,14 @@ module _ (w : ℕ) (stored : List Bool) (order : Order) (count : ℕ) (values : 
   amount = eqb (length values) (count * size stored)
 
   abbrev judgement : Judgement
-  judgement = judgementOf w stored order count values
+  judgement = judgement_of w stored order count values
 
   pub other-amount : amount ≡ false → judgement ≡ Refused Amount
-  unfolding judgementOf or_else require
+  unfolding judgement_of or_else require
   other-amount e = rw e
 
-  pub same-amount : amount ≡ true → judgement ≡ firstMisfit (samplesFrom w (stride order count) (channels stored) values (step order (size stored)) count 0)
-  unfolding judgementOf samples or_else require
+  pub same-amount : amount ≡ true → judgement ≡ first_misfit (samples_from w (stride order count) (channels stored) values (step order (size stored)) count 0)
+  unfolding judgement_of samples or_else require
   same-amount e = rw e
 
   pub no-values : amount ≡ true → size stored ≡ 0 → judgement ≡ Passed
@@ -231,10 +231,10 @@ module _ (w : ℕ) (stored : List Bool) (order : Order) (count : ℕ) (values : 
     put = put_of w stored order count values out at
 
     abbrev all : List ℕ
-    all = pointsBytes w (stride order count) (channels stored) values (step order (size stored)) count 0
+    all = points_bytes w (stride order count) (channels stored) values (step order (size stored)) count 0
 
     put-by : (a b : Bool) → amount ≡ a → leb (at + count * width w stored) (length out) ≡ b → put ≡ cond (a && b) (writing (at + count * width w stored) (puts out at all)) (writing at out)
-    unfolding put_of bytes_of points_of pointsBytes
+    unfolding put_of bytes_of points_of points_bytes
     put-by a b e q = ap₂ (λ x y. cond (x && y) (writing (at + count * width w stored) (puts out at all)) (writing at out)) e q
 
     pub put-amount : amount ≡ false → put ≡ writing at out
@@ -244,7 +244,7 @@ module _ (w : ℕ) (stored : List Bool) (order : Order) (count : ℕ) (values : 
     put-room e h = put-by true false e (lt-leb (at + count * width w stored) (length out) h)
 
     all-length : length all ≡ count * width w stored
-    unfolding pointsBytes width
+    unfolding points_bytes width
     all-length = points-bytes w values (stride order count) (channels stored) (step order (size stored)) count 0
 
     module _ (e : amount ≡ true) (h : at + count * width w stored ≤ length out) where

@@ -8,17 +8,17 @@ use Prim.Native.Nat.{ℕ, zero, suc, ◌+◌, ◌*◌, ◌<◌}
 use native.Mathlib.Omega.{arith}
 use Rattle.formats.specs.Bytes.{impossible}
 use Rattle.refusals.specs.Stages.{require, or_else}
-use Rattle.refusals.specs.Ranges.{firstMisfit}
+use Rattle.refusals.specs.Ranges.{first_misfit}
 use Rattle.refusals.specs.RangeLaws.{joined}
 use Rattle.refusals.specs.declared.Quantity.TheVariants.{Value}
 use Rattle.refusals.specs.declared.Refusal.{Refusal}
 use Rattle.refusals.specs.declared.Refusal.TheVariants.{OutOfRange, Amount}
 use Rattle.refusals.specs.declared.Judgement.{Judgement}
 use Rattle.refusals.specs.declared.Judgement.TheVariants.{Passed, Refused}
-use Rattle.points.specs.Points.{channels, fitsSample}
+use Rattle.points.specs.Points.{channels, fits_sample}
 use Rattle.orders.specs.Orders.{size, step, stride, index, Same}
 use Rattle.orders.specs.declared.Order.TheVariants.{Point, Column}
-use Rattle.values.specs.Values.{samplesIn, samplesFrom, samples, judgementOf}
+use Rattle.values.specs.Values.{samples_in, samples_from, samples, judgement_of}
 use Rattle.values.specs.BothOrders.{NamesNoValue, OneNumber, SameJudgement}
 
 module _ (count k : ℕ) where
@@ -50,25 +50,25 @@ module _ (count k : ℕ) where
 
     same-sample : (channel row column : ℕ) → Met row column
         → SameJudgement count k
-        (require (fitsSample w channel (get_or rows row (pos 0))) (OutOfRange (Value row channel)))
-        (require (fitsSample w channel (get_or columns column (pos 0))) (OutOfRange (Value column channel)))
+        (require (fits_sample w channel (get_or rows row (pos 0))) (OutOfRange (Value row channel)))
+        (require (fits_sample w channel (get_or columns column (pos 0))) (OutOfRange (Value column channel)))
     unfolding require
-    same-sample channel row column m = rw m.0 (go (fitsSample w channel (get_or columns column (pos 0))))
+    same-sample channel row column m = rw m.0 (go (fits_sample w channel (get_or columns column (pos 0))))
       where
         go : (t : Bool) → SameJudgement count k (require t (OutOfRange (Value row channel))) (require t (OutOfRange (Value column channel)))
         go true = tt
         go false = inr (record { row = row; column = column; channel = channel; one = m.1; in_rows = refl; in-columns = refl })
 
     same_in : (l : List ℕ) (from start : ℕ) → ((r : ℕ) → r < length l → Met (from + r * d) (start + r * e))
-        → SameJudgement count k (firstMisfit (samplesIn w d l rows from)) (firstMisfit (samplesIn w e l columns start))
-    unfolding samplesIn firstMisfit
+        → SameJudgement count k (first_misfit (samples_in w d l rows from)) (first_misfit (samples_in w e l columns start))
+    unfolding samples_in first_misfit
     same_in [] from start h = tt
     same_in (channel ∷ l) from start h =
         same-behind
-        (require (fitsSample w channel (get_or rows from (pos 0))) (OutOfRange (Value from channel)))
-        (require (fitsSample w channel (get_or columns start (pos 0))) (OutOfRange (Value start channel)))
-        (firstMisfit (samplesIn w d l rows (from + d)))
-        (firstMisfit (samplesIn w e l columns (start + e)))
+        (require (fits_sample w channel (get_or rows from (pos 0))) (OutOfRange (Value from channel)))
+        (require (fits_sample w channel (get_or columns start (pos 0))) (OutOfRange (Value start channel)))
+        (first_misfit (samples_in w d l rows (from + d)))
+        (first_misfit (samples_in w e l columns (start + e)))
         (let y : from + 0 * d ≡ from = omega arith in let z : start + 0 * e ≡ start = omega arith in same-sample channel from start (rw (y, z) at (h 0 (omega arith))))
         (same_in l (from + d) (start + e) (λ r q.
         let y : from + suc r * d ≡ from + d + r * d = omega arith in
@@ -76,16 +76,16 @@ module _ (count k : ℕ) where
         rw (y, z) at (h (suc r) (omega arith))))
 
     same_from : (l : List ℕ) (p q n from start : ℕ) → ((i r : ℕ) → i < n → r < length l → Met (from + i * p + r * d) (start + i * q + r * e))
-        → SameJudgement count k (firstMisfit (samplesFrom w d l rows p n from)) (firstMisfit (samplesFrom w e l columns q n start))
-    unfolding samplesFrom firstMisfit
+        → SameJudgement count k (first_misfit (samples_from w d l rows p n from)) (first_misfit (samples_from w e l columns q n start))
+    unfolding samples_from first_misfit
     same_from l p q zero from start h = tt
     same_from l p q (suc n) from start h =
-        rw (joined (samplesIn w d l rows from) (samplesFrom w d l rows p n (from + p)), joined (samplesIn w e l columns start) (samplesFrom w e l columns q n (start + q)))
+        rw (joined (samples_in w d l rows from) (samples_from w d l rows p n (from + p)), joined (samples_in w e l columns start) (samples_from w e l columns q n (start + q)))
         (same-behind
-        (firstMisfit (samplesIn w d l rows from))
-        (firstMisfit (samplesIn w e l columns start))
-        (firstMisfit (samplesFrom w d l rows p n (from + p)))
-        (firstMisfit (samplesFrom w e l columns q n (start + q)))
+        (first_misfit (samples_in w d l rows from))
+        (first_misfit (samples_in w e l columns start))
+        (first_misfit (samples_from w d l rows p n (from + p)))
+        (first_misfit (samples_from w e l columns q n (start + q)))
         (same_in l from start (λ r g.
         let y : from + 0 * p + r * d ≡ from + r * d = omega arith in
         let z : start + 0 * q + r * e ≡ start + r * e = omega arith in
@@ -97,8 +97,8 @@ module _ (count k : ℕ) where
 
 -- as many values, and the same, are judged the same in both orders
 pub same-judged : (w : ℕ) (stored : List Bool) (count : ℕ) (rows columns : List ℤ) → length rows ≡ length columns → Same count (size stored) rows columns
-    → SameJudgement count (size stored) (judgementOf w stored Point count rows) (judgementOf w stored Column count columns)
-unfolding judgementOf samples
+    → SameJudgement count (size stored) (judgement_of w stored Point count rows) (judgement_of w stored Column count columns)
+unfolding judgement_of samples
 same-judged w stored count rows columns e same =
     rw e
     (same-behind count (size stored)

@@ -3,12 +3,12 @@ ghost use Rattle.std.specs.Prelude.{◌≡◌, ◌+◌, ◌≤◌, ◌<◌, leng
 ghost use Rattle.formats.specs.Laid.{Room, Laid, Owed};
 ghost use Rattle.formats.specs.Lent.{writing};
 ghost use Rattle.channels.specs.Channel.{width_of};
-ghost use Rattle.points.specs.Points.{sampleSize, channels as channelsOf};
+ghost use Rattle.points.specs.Points.{sample_size, channels as channelsOf};
 ghost use Rattle.orders.specs.Orders.{size};
 ghost use Rattle.orders.specs.Parts.{many, AllAt};
-ghost use Rattle.refusals.specs.Ranges.{firstMisfit};
-ghost use Rattle.values.specs.Values.{samplesIn, samplesFrom, judgementOf, storedSample, numberIn, sampleBytes, put_of};
-ghost use Rattle.values.specs.Parts.{Inside, pointBytes, pointsBytes, bytesLeft};
+ghost use Rattle.refusals.specs.Ranges.{first_misfit};
+ghost use Rattle.values.specs.Values.{samples_in, samples_from, judgement_of, stored_sample, number_in, sample_bytes, put_of};
+ghost use Rattle.values.specs.Parts.{Inside, point_bytes, points_bytes, bytes_left};
 
 use channels::{Format, Stored};
 use orders::Order;
@@ -16,7 +16,7 @@ use refusals::{Judgement, Quantity, Refusal};
 
 // What is stored for a number of a channel, if anything is.
 pub fn stored_sample(format: Format, channel: usize, value: i32) -> Stored
-    ensures { result ≡ storedSample (width_of format) channel value }
+    ensures { result ≡ stored_sample (width_of format) channel value }
 {
     if channel == channels::S {
         return tip_switch::byte_of(value);
@@ -34,7 +34,7 @@ fn judge_point(
     stored: &[bool; 16],
 ) -> Judgement
     requires { (length stored.now ≡ 16) × (stride ≤ length values.now + 1) × Inside values.now stride (size stored.now) from }
-    ensures { result ≡ firstMisfit (samplesIn (width_of format) stride (channelsOf stored.now) values.now from) }
+    ensures { result ≡ first_misfit (samples_in (width_of format) stride (channelsOf stored.now) values.now from) }
 {
     let mut index = from;
     let mut channel: usize = 0;
@@ -69,7 +69,7 @@ fn judge_from(
     stored: &[bool; 16],
 ) -> Judgement
     requires { (length stored.now ≡ 16) × (stride ≤ length values.now + 1) × (step ≤ 16) × (0 < size stored.now) × AllAt (Inside values.now stride (size stored.now)) step count 0 }
-    ensures { result ≡ firstMisfit (samplesFrom (width_of format) stride (channelsOf stored.now) values.now step count 0) }
+    ensures { result ≡ first_misfit (samples_from (width_of format) stride (channelsOf stored.now) values.now step count 0) }
 {
     let mut from: usize = 0;
     let mut i: usize = 0;
@@ -92,7 +92,7 @@ pub fn judge(
     stored: [bool; 16],
     order: Order,
 ) -> Judgement
-    ensures { result ≡ judgementOf (width_of format) stored order count values.now }
+    ensures { result ≡ judgement_of (width_of format) stored order count values.now }
 {
     let k = orders::size(stored);
     if !orders::is_amount(values.len(), count, k) {
@@ -108,7 +108,7 @@ pub fn judge(
 
 // The stored number, and 0 where there is none.
 fn number_in(stored: Stored) -> u16
-    ensures { result ≡ numberIn stored }
+    ensures { result ≡ number_in stored }
 {
     match stored {
         Stored::Number(number) => number,
@@ -118,7 +118,7 @@ fn number_in(stored: Stored) -> u16
 
 // The format that a channel's number is put in: S has one byte, as a compact number has.
 fn sample_format(format: Format, channel: usize) -> Format
-    ensures { width_of result ≡ sampleSize (width_of format) channel }
+    ensures { width_of result ≡ sample_size (width_of format) channel }
 {
     if channel == channels::S {
         return Format::Compact;
@@ -129,8 +129,8 @@ fn sample_format(format: Format, channel: usize) -> Format
 // A number of a sample point is put, and where the next goes is answered, as by each function that follows.
 // It is handed the very bytes that it has: so the compiler sees that there is room.
 fn put_sample(out: &mut [u8], at: usize, channel: usize, value: i32, format: Format) -> usize
-    requires { Room out.old at (sampleBytes (width_of format) channel value) }
-    ensures { Laid out.old at (sampleBytes (width_of format) channel value) out.new result }
+    requires { Room out.old at (sample_bytes (width_of format) channel value) }
+    ensures { Laid out.old at (sample_bytes (width_of format) channel value) out.new result }
 {
     let number = number_in(stored_sample(format, channel, value));
     let narrow = sample_format(format, channel);
@@ -158,8 +158,8 @@ fn put_run(
     first: usize,
     last: usize,
 ) -> Run
-    requires { (length stored.now ≡ 16) × (stride ≤ length values.now + 1) × Inside values.now stride (many stored.now first) from × Room out.old start (bytesLeft (width_of format) stride stored.now values.now first from) × (first ≤ last) × (last ≤ 16) }
-    ensures { Inside values.now stride (many stored.now last) result.index × Owed out.old start (bytesLeft (width_of format) stride stored.now values.now first from) out.new result.at (bytesLeft (width_of format) stride stored.now values.now last result.index) }
+    requires { (length stored.now ≡ 16) × (stride ≤ length values.now + 1) × Inside values.now stride (many stored.now first) from × Room out.old start (bytes_left (width_of format) stride stored.now values.now first from) × (first ≤ last) × (last ≤ 16) }
+    ensures { Inside values.now stride (many stored.now last) result.index × Owed out.old start (bytes_left (width_of format) stride stored.now values.now first from) out.new result.at (bytes_left (width_of format) stride stored.now values.now last result.index) }
 {
     let mut at = start;
     let mut index = from;
@@ -189,8 +189,8 @@ fn put_point(
     format: Format,
     stored: &[bool; 16],
 ) -> usize
-    requires { (length stored.now ≡ 16) × (stride ≤ length values.now + 1) × Inside values.now stride (size stored.now) from × Room out.old start (pointBytes (width_of format) stride (channelsOf stored.now) values.now from) }
-    ensures { Laid out.old start (pointBytes (width_of format) stride (channelsOf stored.now) values.now from) out.new result }
+    requires { (length stored.now ≡ 16) × (stride ≤ length values.now + 1) × Inside values.now stride (size stored.now) from × Room out.old start (point_bytes (width_of format) stride (channelsOf stored.now) values.now from) }
+    ensures { Laid out.old start (point_bytes (width_of format) stride (channelsOf stored.now) values.now from) out.new result }
 {
     let before = put_run(
         out,
@@ -239,8 +239,8 @@ fn put_from(
     format: Format,
     stored: &[bool; 16],
 ) -> usize
-    requires { (length stored.now ≡ 16) × (stride ≤ length values.now + 1) × (step ≤ 16) × (0 < size stored.now) × AllAt (Inside values.now stride (size stored.now)) step count 0 × Room out.old start (pointsBytes (width_of format) stride (channelsOf stored.now) values.now step count 0) }
-    ensures { Laid out.old start (pointsBytes (width_of format) stride (channelsOf stored.now) values.now step count 0) out.new result }
+    requires { (length stored.now ≡ 16) × (stride ≤ length values.now + 1) × (step ≤ 16) × (0 < size stored.now) × AllAt (Inside values.now stride (size stored.now)) step count 0 × Room out.old start (points_bytes (width_of format) stride (channelsOf stored.now) values.now step count 0) }
+    ensures { Laid out.old start (points_bytes (width_of format) stride (channelsOf stored.now) values.now step count 0) out.new result }
 {
     let mut at = start;
     let mut from: usize = 0;

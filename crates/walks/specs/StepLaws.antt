@@ -7,17 +7,17 @@ use mathlib.Core.List.{List, [], ◌∷◌, ◌++◌, flatten, append-nil, appen
 use Rattle.std.proofs.Math.ListN.{length, take, length-append, length-drop}
 use Rattle.std.proofs.Math.Seq.{drop-append_seam}
 use Rattle.formats.specs.Bytes.{Bytes, bytes_drop, impossible}
-use Rattle.formats.specs.Reader.{Answer, ok, short, bad, after, run, readAt}
+use Rattle.formats.specs.Reader.{Answer, ok, short, bad, after, run, read_at}
 use Rattle.formats.specs.Law.{whole}
 use Rattle.formats.specs.Writes.{All, all_append}
 use Rattle.formats.specs.declared.Failure.TheVariants.{Short, Bad}
-use Rattle.refusals.specs.Table.{refusalOf}
-use Rattle.records.specs.Record.{Record, fullRecord, IsRecord, present}
+use Rattle.refusals.specs.Table.{refusal_of}
+use Rattle.records.specs.Record.{Record, full_record, IsRecord, present}
 use Rattle.records.specs.Demands.{wants, read-after-write, write-after-read}
-use Rattle.record_reading.specs.Verdict.{verdictFrom}
+use Rattle.record_reading.specs.Verdict.{verdict_from}
 use Rattle.record_reading.specs.declared.Verdict.{Verdict}
 use Rattle.record_reading.specs.declared.Verdict.TheVariants as verdict
-use Rattle.walks.specs.Walk.{stays, stepped, step_of, recordOf, start_of}
+use Rattle.walks.specs.Walk.{stays, stepped, step_of, record_of, start_of}
 use Rattle.walks.specs.declared.Found.TheVariants as found
 use Rattle.walks.specs.declared.Step.{Step}
 
@@ -55,34 +55,34 @@ module _ (bs : List (List ℕ)) where
 -- ---- A step over a record
 
 -- so a record that is read has a byte
-some_bytes : (s : List ℕ) (r : Record) (n : ℕ) → run fullRecord s ≡ ok r n → 0 < n
-some_bytes s r zero e = impossible (cc (wants, (whole fullRecord s e).same []))
+some_bytes : (s : List ℕ) (r : Record) (n : ℕ) → run full_record s ≡ ok r n → 0 < n
+some_bytes s r zero e = impossible (cc (wants, (whole full_record s e).same []))
 some_bytes s r (suc n) e = omega arith
 
 -- a record is read whatever follows it
-read-joined : {b : List ℕ} (t : List ℕ) (x : IsRecord b) → run fullRecord (b ++ t) ≡ ok x.value (length b)
+read-joined : {b : List ℕ} (t : List ℕ) (x : IsRecord b) → run full_record (b ++ t) ≡ ok x.value (length b)
 read-joined t x = rw x.written (read-after-write x.value t x.valid)
 
 -- a step, by what is read of the bytes from its place on
 unfoldable stepped-read : (place : ℕ) → Answer Record → Step
-stepped-read place x = stepped place (verdictFrom place (after place x))
+stepped-read place x = stepped place (verdict_from place (after place x))
 
 -- over a record it leads behind it
 over : (place : ℕ) (r : Record) (n : ℕ) → stepped-read place (ok r n) ≡ record { found = found.Record n (length r.points) (present r.extended); next = place + n }
-unfolding stepped-read stepped verdictFrom after
+unfolding stepped-read stepped verdict_from after
 over place r n = let z : place + n - place ≡ n = omega arith in rw z
 
 -- and over no record it stays
-stood-short : (place : ℕ) → stepped-read place short ≡ stays (found.Refused (refusalOf Short)) place
-unfolding stepped-read stepped verdictFrom after
+stood-short : (place : ℕ) → stepped-read place short ≡ stays (found.Refused (refusal_of Short)) place
+unfolding stepped-read stepped verdict_from after
 stood-short place = refl
 
-stood-bad : (place k p : ℕ) → stepped-read place (bad k p) ≡ stays (found.Refused (refusalOf (Bad k (place + p)))) place
-unfolding stepped-read stepped verdictFrom after
+stood-bad : (place k p : ℕ) → stepped-read place (bad k p) ≡ stays (found.Refused (refusal_of (Bad k (place + p)))) place
+unfolding stepped-read stepped verdict_from after
 stood-bad place k p = refl
 
-pub step-record : (file : List ℕ) (place : ℕ) {b : List ℕ} (t : List ℕ) (x : IsRecord b) → drop place file ≡ b ++ t → step_of file place ≡ record { found = recordOf x; next = place + length b }
-unfolding step_of readAt stepped-read
+pub step-record : (file : List ℕ) (place : ℕ) {b : List ℕ} (t : List ℕ) (x : IsRecord b) → drop place file ≡ b ++ t → step_of file place ≡ record { found = record_of x; next = place + length b }
+unfolding step_of read_at stepped-read
 step-record file place {b} t x e =
     let n = ap length e in
     rw (lt-ltb place (length file) (omega (arith, some_bytes (b ++ t) x.value (length b) (read-joined t x), length-drop place file, length-append b t, n)), e, read-joined t x)
@@ -102,7 +102,7 @@ never place (verdict.Refused refusal) e = impossible (cc)
 -- nothing but the end is answered by "end"
 pub end-there : (file : List ℕ) (place : ℕ) → (step_of file place).found ≡ found.End → length file ≤ place
 unfolding step_of
-end-there file place e = go (ltb place (length file)) refl (verdictFrom place (readAt fullRecord file place)) e
+end-there file place e = go (ltb place (length file)) refl (verdict_from place (read_at full_record file place)) e
   where
     go : (t : Bool) → ltb place (length file) ≡ t → (v : Verdict) → (cond t (stepped place v) (stays found.End place)).found ≡ found.End → length file ≤ place
     go true h v q = absurd (never place v q)
@@ -110,15 +110,15 @@ end-there file place e = go (ltb place (length file)) refl (verdictFrom place (r
 
 moves : (file : List ℕ) (place : ℕ) {n k : ℕ} {t : Bool} → (step_of file place).found ≡ found.Record n k t
     → (place < (step_of file place).next) × ((step_of file place).next ≤ length file)
-unfolding step_of readAt stepped-read
-moves file place {n} {k} {t} e = go (ltb place (length file)) refl (run fullRecord (drop place file)) refl e
+unfolding step_of read_at stepped-read
+moves file place {n} {k} {t} e = go (ltb place (length file)) refl (run full_record (drop place file)) refl e
   where
-    go : (b : Bool) → ltb place (length file) ≡ b → (x : Answer Record) → run fullRecord (drop place file) ≡ x
+    go : (b : Bool) → ltb place (length file) ≡ b → (x : Answer Record) → run full_record (drop place file) ≡ x
         → (cond b (stepped-read place x) (stays found.End place)).found ≡ found.Record n k t
         → (place < (cond b (stepped-read place x) (stays found.End place)).next) × ((cond b (stepped-read place x) (stays found.End place)).next ≤ length file)
     go true h (ok r m) g q =
         let z = ap (λ (y : Step). y.next) (over place r m) in
-        (omega (arith, z, some_bytes (drop place file) r m g), omega (arith, z, ltb-true, (whole fullRecord (drop place file) g).within, length-drop place file))
+        (omega (arith, z, some_bytes (drop place file) r m g), omega (arith, z, ltb-true, (whole full_record (drop place file) g).within, length-drop place file))
     go true h short g q = impossible (cc (ap (λ (y : Step). y.found) (stood-short place)))
     go true h (bad j p) g q = impossible (cc (ap (λ (y : Step). y.found) (stood-bad place j p)))
     go false h x g q = impossible (cc)
@@ -136,13 +136,13 @@ pub record Covered (file : List ℕ) (place : ℕ) : Type 0 where
 
 module _ (file : List ℕ) (bytes : Bytes file) (place : ℕ) (p : Covered file place) where
   -- a record that is read there is one more
-  one_more : (r : Record) (n : ℕ) → run fullRecord (drop place file) ≡ ok r n → Covered file (place + n)
+  one_more : (r : Record) (n : ℕ) → run full_record (drop place file) ≡ ok r n → Covered file (place + n)
   unfolding flatten
   one_more r n e =
       let y = write-after-read (drop place file) r n (bytes_drop place file bytes) e in
       let b = take n (drop place file) in
       record {
-        within = omega (arith, (whole fullRecord (drop place file) e).within, length-drop place file, p.within);
+        within = omega (arith, (whole full_record (drop place file) e).within, length-drop place file, p.within);
         cut = p.cut ++ (b ∷ []);
         records = all_append IsRecord p.cut (b ∷ []) p.records (record { value = r; valid = y.0; written = y.1 }, tt);
         joined = flatten-append p.cut (b ∷ []) ∙ rw (p.joined, append-nil b) (sym (take-add place n file));
@@ -150,10 +150,10 @@ module _ (file : List ℕ) (bytes : Bytes file) (place : ℕ) (p : Covered file 
 
   -- so whatever a step answers, what lies before the next place are whole records
   pub covers : Covered file (step_of file place).next
-  unfolding step_of readAt stepped-read
-  covers = go (ltb place (length file)) (run fullRecord (drop place file)) refl
+  unfolding step_of read_at stepped-read
+  covers = go (ltb place (length file)) (run full_record (drop place file)) refl
     where
-      go : (t : Bool) (x : Answer Record) → run fullRecord (drop place file) ≡ x → Covered file (cond t (stepped-read place x) (stays found.End place)).next
+      go : (t : Bool) (x : Answer Record) → run full_record (drop place file) ≡ x → Covered file (cond t (stepped-read place x) (stays found.End place)).next
       go true (ok r n) e = rw (over place r n) (one_more r n e)
       go true short e = rw (stood-short place) p
       go true (bad k q) e = rw (stood-bad place k q) p

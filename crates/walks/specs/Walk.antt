@@ -2,9 +2,9 @@
 use Rattle.std.specs.Prelude.{◌≡◌, cond, ℕ, zero, suc, ◌+◌, ◌≤◌, ◌<◌, ltb, length, take, get_or}
 use mathlib.Core.List.{List, [], flatten}
 use Rattle.std.specs.Borrow.{Bor}
-use Rattle.formats.specs.Reader.{readAt}
-use Rattle.records.specs.Record.{fullRecord, IsRecord, present}
-use Rattle.record_reading.specs.Verdict.{verdictFrom}
+use Rattle.formats.specs.Reader.{read_at}
+use Rattle.records.specs.Record.{full_record, IsRecord, present}
+use Rattle.record_reading.specs.Verdict.{verdict_from}
 use Rattle.record_reading.specs.declared.Verdict.{Verdict}
 use Rattle.record_reading.specs.declared.Verdict.TheVariants as verdict
 use Rattle.walks.specs.declared.Found.{Found}
@@ -25,18 +25,18 @@ stepped place (verdict.Refused refusal) = stays (found.Refused refusal) place
 
 -- a step from a place: "end" at the file's end and beyond it, and else what is read there, whose places count from the file's start
 unfoldable pub step_of : (file : List ℕ) (place : ℕ) → Step
-step_of file place = cond (ltb place (length file)) (stepped place (verdictFrom place (readAt fullRecord file place))) (stays found.End place)
+step_of file place = cond (ltb place (length file)) (stepped place (verdict_from place (read_at full_record file place))) (stays found.End place)
 
 -- ---- A walk
 
 -- where a walk from a file's start stands after k steps
-unfoldable pub placeAfter : (file : List ℕ) (k : ℕ) → ℕ
-placeAfter file zero = 0
-placeAfter file (suc k) = (step_of file (placeAfter file k)).next
+unfoldable pub place_after : (file : List ℕ) (k : ℕ) → ℕ
+place_after file zero = 0
+place_after file (suc k) = (step_of file (place_after file k)).next
 
 -- step k of a walk from a file's start, counted from 0
-abbrev pub stepOfWalk : (file : List ℕ) (k : ℕ) → Step
-stepOfWalk file k = step_of file (placeAfter file k)
+abbrev pub step_of_walk : (file : List ℕ) (k : ℕ) → Step
+step_of_walk file k = step_of file (place_after file k)
 
 -- ---- A walker
 
@@ -49,9 +49,9 @@ abbrev pub moved : Walker → Walker
 moved w = record { file = w.file; place = (step_of w.file.now w.place).next }
 
 -- a walker that was made of a file, after k steps
-unfoldable pub walkerAfter : Bor (List ℕ) → (k : ℕ) → Walker
-walkerAfter file zero = at_start file
-walkerAfter file (suc k) = moved (walkerAfter file k)
+unfoldable pub walker_after : Bor (List ℕ) → (k : ℕ) → Walker
+walker_after file zero = at_start file
+walker_after file (suc k) = moved (walker_after file k)
 
 -- ---- A cut
 
@@ -60,12 +60,12 @@ abbrev pub start_of : List (List ℕ) → (k : ℕ) → ℕ
 start_of bs k = length (flatten (take k bs))
 
 -- a record with its own length, count of points, and whether it has extended data
-abbrev pub recordOf : {b : List ℕ} → IsRecord b → Found
-recordOf {b} x = found.Record (length b) (length x.value.points) (present x.value.extended)
+abbrev pub record_of : {b : List ℕ} → IsRecord b → Found
+record_of {b} x = found.Record (length b) (length x.value.points) (present x.value.extended)
 
 -- a walk from the file's start gives the cut bs: each record is a step, which stands where the record starts, answers it, and leads to
 -- where the next starts; and the step behind the last record stands at the file's end, and answers "end"
 pub record Gives (file : List ℕ) (bs : List (List ℕ)) : Type 0 where
-  pub starts : (k : ℕ) → k ≤ length bs → placeAfter file k ≡ start_of bs k
-  pub answers : (k : ℕ) → k < length bs → (x : IsRecord (get_or bs k [])) → stepOfWalk file k ≡ record { found = recordOf x; next = start_of bs (suc k) }
-  pub ends : stepOfWalk file (length bs) ≡ stays found.End (length file)
+  pub starts : (k : ℕ) → k ≤ length bs → place_after file k ≡ start_of bs k
+  pub answers : (k : ℕ) → k < length bs → (x : IsRecord (get_or bs k [])) → step_of_walk file k ≡ record { found = record_of x; next = start_of bs (suc k) }
+  pub ends : step_of_walk file (length bs) ≡ stays found.End (length file)

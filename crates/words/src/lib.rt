@@ -1,7 +1,7 @@
 // Words of a line: where they stand, how they begin, which of some names they are.
 ghost use Rattle.std.specs.Prelude.{◌≡◌, ◌-◌, take, drop};
 ghost use Rattle.words.specs.Places.{Sought, Skipped, Word};
-ghost use Rattle.words.specs.Said.{beginsWith, saysNot, withoutNot, reasonOf};
+ghost use Rattle.words.specs.Said.{begins_with, says_not, without_not, reason_of};
 ghost use Rattle.words.specs.Names.{Named, Nth};
 
 // Why a word could not be read; it could, where there is no reason.
@@ -107,7 +107,7 @@ pub fn name<'a>(names: &'a [u8], mark: u8, number: usize) -> &'a [u8]
 
 // Whether a word begins with a mark.
 pub fn begins(word: &[u8], mark: u8) -> bool
-    ensures { result ≡ beginsWith word.now mark }
+    ensures { result ≡ begins_with word.now mark }
 {
     if word.len() == 0 {
         return false;
@@ -117,14 +117,14 @@ pub fn begins(word: &[u8], mark: u8) -> bool
 
 // Whether a word begins with `!`, which says not.
 pub fn says_not(word: &[u8]) -> bool
-    ensures { result ≡ saysNot word.now }
+    ensures { result ≡ says_not word.now }
 {
     begins(word, b'!')
 }
 
 // A word without the `!` that it may begin with.
 pub fn without_not<'a>(word: &'a [u8]) -> &'a [u8]
-    ensures { result.now ≡ withoutNot word.now }
+    ensures { result.now ≡ without_not word.now }
 {
     if says_not(word) {
         return part(word, 1, word.len());
@@ -134,7 +134,7 @@ pub fn without_not<'a>(word: &'a [u8]) -> &'a [u8]
 
 // Why a word could not be read: it is missing, or it is not what was wanted.
 pub fn reason(good: bool, word: &[u8], otherwise: usize) -> usize
-    ensures { result ≡ reasonOf good word.now otherwise }
+    ensures { result ≡ reason_of good word.now otherwise }
 {
     if good {
         return NO_REASON;

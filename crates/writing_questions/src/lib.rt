@@ -24,7 +24,7 @@ pub fn write(text: &mut [u8; 65536], used: u16, line: &[u8], at: usize, order: O
         sayings::description_at(line, marked.behind, mark),
         wanted,
         numerals::first(&values, wanted.given),
-        hex::first(&space, wanted.lent),
+        hexadecimal::first(&space, wanted.lent),
         order,
     )
 }
@@ -50,7 +50,7 @@ fn write_record(
         order,
         &mut out[0..room],
     );
-    put(text, used, of_written(written), hex::first(&out, room))
+    put(text, used, of_written(written), hexadecimal::first(&out, room))
 }
 
 fn ask(
@@ -122,7 +122,7 @@ fn write_described(
         template.maximum,
         &mut out[0..room],
     );
-    put(text, used, of_template(written), hex::first(&out, room))
+    put(text, used, of_template(written), hexadecimal::first(&out, room))
 }
 
 fn of_template(written: template_writing::Written) -> Answer {

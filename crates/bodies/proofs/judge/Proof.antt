@@ -1,7 +1,7 @@
 -- `bodies::judge` meets its contract: the template's rule decides, then the verdict on the body, and only a body has a description.
 use mathlib.Core.Path.{◌≡◌, ap, ◌∙◌}
-use Rattle.templates.specs.Reading.{templateOf}
-use Rattle.bodies.specs.Reading.{judgedBy}
+use Rattle.templates.specs.Reading.{template_of}
+use Rattle.bodies.specs.Reading.{judged_by}
 use Rattle.bodies.proofs.Bodies.{judged-refused, judged-faulty, judged-body}
 use borrow.Author.Rules.{rules}
 use Rattle.bodies.proofs.judge.Statement.{statement}
@@ -21,8 +21,8 @@ unjudged-requires c κs = search rules
 
 -- what is said of the template that was read is said of its bytes
 whole : (c : tie.After-read) → let a = c.before.before.before.args in
-    judgedBy c.read.result a.body.now ≡ judgedBy (templateOf a.template.now) a.body.now
-whole c = ap (λ j. judgedBy j c.before.before.before.args.body.now) c.read.ensures
+    judged_by c.read.result a.body.now ≡ judged_by (template_of a.template.now) a.body.now
+whole c = ap (λ j. judged_by j c.before.before.before.args.body.now) c.read.ensures
 
 returns : tie.Need-returns
 returns c =

@@ -1,7 +1,7 @@
 -- `bodies::judge_point` meets its contract: the template's rule decides, and then the verdict on the body.
 use mathlib.Core.Path.{◌≡◌, refl, ap, ◌∙◌}
-use Rattle.templates.specs.Reading.{templateOf}
-use Rattle.bodies.specs.Reading.{pointedBy}
+use Rattle.templates.specs.Reading.{template_of}
+use Rattle.bodies.specs.Reading.{pointed_by}
 use Rattle.bodies.proofs.Bodies.{pointed-refused, pointed-passed}
 use borrow.Author.Rules.{rules}
 use Rattle.bodies.proofs.judge_point.Statement.{statement}
@@ -18,8 +18,8 @@ enum-known-judgement c = search rules
 
 -- what is said of the template that was read is said of its bytes
 whole : (c : tie.After-read) → let a = c.before.before.before.args in
-    pointedBy a.index c.read.result a.body.now ≡ pointedBy a.index (templateOf a.template.now) a.body.now
-whole c = let a = c.before.before.before.args in ap (λ j. pointedBy a.index j a.body.now) c.read.ensures
+    pointed_by a.index c.read.result a.body.now ≡ pointed_by a.index (template_of a.template.now) a.body.now
+whole c = let a = c.before.before.before.args in ap (λ j. pointed_by a.index j a.body.now) c.read.ensures
 
 returns : tie.Need-returns
 returns c =

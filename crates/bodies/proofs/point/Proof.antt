@@ -2,8 +2,8 @@
 use mathlib.Core.Path.{◌≡◌, sym, ap, ◌∙◌}
 use mathlib.Core.Logic.{⊎_elim}
 use native.Mathlib.Omega.{arith}
-use Rattle.templates.specs.Reading.{templateOf}
-use Rattle.bodies.specs.Reading.{ruleOf}
+use Rattle.templates.specs.Reading.{template_of}
+use Rattle.bodies.specs.Reading.{rule_of}
 use Rattle.bodies.proofs.Pointing.{Shown, shown-there, shown-none, point-within}
 use borrow.Author.Rules.{rules}
 use Rattle.bodies.proofs.point.Statement.{statement}
@@ -25,8 +25,8 @@ width-requires : tie.Need-width-requires
 width-requires c κs = search rules
 
 -- the rule is that of the template's bytes
-rule : (c : tie.After-rule-of) → c.rule-of.result ≡ ruleOf (templateOf c.before.before.before.before.args.template.now)
-rule c = c.rule-of.ensures ∙ ap ruleOf c.before.read.ensures
+rule : (c : tie.After-rule-of) → c.rule-of.result ≡ rule_of (template_of c.before.before.before.before.args.template.now)
+rule c = c.rule-of.ensures ∙ ap rule_of c.before.read.ensures
 
 mul-start : tie.Need-overflow-mul-start
 mul-start c =
@@ -40,7 +40,7 @@ places-requires c κs = search rules
 
 -- where the ways meet, the places are read by the flags of the template, or of no channel
 shown : (c : tie.At-match-branch) → let a = c.before.before.before.before.before.before.args in
-    Shown a.index (templateOf a.template.now) a.body.now c.match.included c.match.stored c.match.start
+    Shown a.index (template_of a.template.now) a.body.now c.match.included c.match.stored c.match.start
 shown c =
     let p = c.before in
     ⊎_elim

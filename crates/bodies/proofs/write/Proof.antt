@@ -1,7 +1,7 @@
 -- `bodies::write` meets its contract: the template's rule decides, and then what is to be written.
 use mathlib.Core.Path.{◌≡◌, ap, ◌∙◌}
-use Rattle.templates.specs.Reading.{templateOf}
-use Rattle.bodies.specs.Writing.{writeBy}
+use Rattle.templates.specs.Reading.{template_of}
+use Rattle.bodies.specs.Writing.{write_by}
 use Rattle.bodies.proofs.Writing.{write-refused, write-passed}
 use borrow.Author.Rules.{rules}
 use Rattle.bodies.proofs.write.Statement.{statement}
@@ -18,9 +18,9 @@ enum-known-judgement c = search rules
 
 -- what is said of the template that was read is said of its bytes
 whole : (c : tie.After-read) → let a = c.before.before.before.before.args in
-    writeBy c.read.result a.count a.values.now a.wanted a.out.now
-    ≡ writeBy (templateOf a.template.now) a.count a.values.now a.wanted a.out.now
-whole c = let a = c.before.before.before.before.args in ap (λ j. writeBy j a.count a.values.now a.wanted a.out.now) c.read.ensures
+    write_by c.read.result a.count a.values.now a.wanted a.out.now
+    ≡ write_by (template_of a.template.now) a.count a.values.now a.wanted a.out.now
+whole c = let a = c.before.before.before.before.args in ap (λ j. write_by j a.count a.values.now a.wanted a.out.now) c.read.ensures
 
 returns : tie.Need-returns
 returns c =

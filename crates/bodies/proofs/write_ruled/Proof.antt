@@ -12,8 +12,8 @@ use Rattle.refusals.specs.declared.Judgement.TheVariants.{Passed}
 use Rattle.orders.specs.Orders.{size, points_of}
 use Rattle.orders.specs.declared.Order.TheVariants.{Point}
 use Rattle.values.specs.ValueLaws.{fits-length, put-laid}
-use Rattle.bodies.specs.Body.{encodeBody}
-use Rattle.bodies.specs.Writing.{putWhere, writeRuled}
+use Rattle.bodies.specs.Body.{encode_body}
+use Rattle.bodies.specs.Writing.{put_where, write_ruled}
 use Rattle.bodies.specs.declared.Written.TheVariants as written
 use Rattle.bodies.specs.WritingLaws.{Passes, passes, fits-small}
 use borrow.Author.Rules.{rules}
@@ -32,18 +32,18 @@ module _ (m : tie.After-judge-values) where
   asked = m.before.before
 
   abbrev meant : List ℕ
-  meant = encodeBody asked.args.stored (points_of Point asked.args.count (size asked.args.stored) asked.args.values.now)
+  meant = encode_body asked.args.stored (points_of Point asked.args.count (size asked.args.stored) asked.args.values.now)
 
   by : {j : Judgement} → m.judge-values.result ≡ j → let a = asked.args in
-      writeRuled a.stored a.limited a.maximum a.count a.values.now a.wanted a.out.now ≡ putWhere meant a.out.now j
-  unfolding writeRuled
-  by e = ap (putWhere meant asked.args.out.now) (sym m.judge-values.ensures ∙ e)
+      write_ruled a.stored a.limited a.maximum a.count a.values.now a.wanted a.out.now ≡ put_where meant a.out.now j
+  unfolding write_ruled
+  by e = ap (put_where meant asked.args.out.now) (sym m.judge-values.ensures ∙ e)
 
   pass : m.judge-values.result ≡ Passed → let a = asked.args in Passes a.stored a.limited a.maximum a.count a.values.now
   pass e = let a = asked.args in passes a.stored a.limited a.maximum a.count a.values.now a.wanted (sym m.judge-values.ensures ∙ e)
 
 returns : tie.Need-returns
-unfolding putWhere
+unfolding put_where
 returns c = let j = c.before in sym (by j.before.before j.judged.given.1)
 
 enum_told : tie.Need-enum-told
@@ -71,7 +71,7 @@ mul-length c =
     record { fits = omega (arith, z, c.width.ensures.1) }
 
 returns-2 : tie.Need-returns-2
-unfolding putWhere
+unfolding put_where
 returns-2 c =
     let w = c.before in
     let m = from w in
@@ -84,7 +84,7 @@ same_length : tie.Need-same-length
 same_length c = search rules
 
 returns-3 : tie.Need-returns-3
-unfolding putWhere
+unfolding put_where
 returns-3 c =
     let q = c.before.before in
     let w = q.before.before.before in

@@ -5,7 +5,7 @@ use lib.IntN.{ℤ, pos, negsuc}
 use mir.Syntax.{w32, w64}
 use mir.Val.{SFits}
 use mir.ValLaws.{to_z-of_z}
-use Rattle.calibration.specs.Reading.{placeReading}
+use Rattle.calibration.specs.Reading.{place_reading}
 use Rattle.calibration.proofs.calibrate.Statement.{statement}
 use Rattle.calibration.proofs.calibrate.Tie as tie
 
@@ -36,15 +36,15 @@ with-scaling-requires-2 : tie.Need-with-scaling-requires-2
 with-scaling-requires-2 c κs = search rules
 
 returns : tie.Need-returns
-unfolding placeReading
+unfolding place_reading
 returns c = rw c.enum_told.given.1
 
 returns-2 : tie.Need-returns-2
-unfolding placeReading
+unfolding place_reading
 returns-2 c = rw c.before.enum-told2.given.1 c.with-scaling.ensures
 
 returns-3 : tie.Need-returns-3
-unfolding placeReading
+unfolding place_reading
 returns-3 c =
     let raw = c.before.before.place.given.0.0 in
     let f = raw-fits c.before in

@@ -8,7 +8,7 @@ use lib.IntN.{pos, negsuc}
 use lib.Signed.{le_z}
 use mir.Facts.{to_z-of_z}
 use Rattle.refusals.specs.Stages.{require, or_else}
-use Rattle.refusals.specs.Ranges.{firstMisfit}
+use Rattle.refusals.specs.Ranges.{first_misfit}
 use Rattle.calibration.specs.Reading.{numbers}
 use Rattle.calibration.proofs.Tested.{read, below-least, from-least, above-greatest, to-greatest}
 use Rattle.calibration.proofs.judge.Statement.{statement}
@@ -31,7 +31,7 @@ outside-requires-4 : tie.Need-outside-requires-4
 outside-requires-4 c κs = search rules
 
 returns : tie.Need-returns
-unfolding numbers firstMisfit or_else require
+unfolding numbers first_misfit or_else require
 returns c =
     let t = c.before in
     let s = t.before in
@@ -49,20 +49,20 @@ greatest c =
     to-greatest s.args.raw {m = 65535} (rw (back s) at c.if2.false) (omega arith)
 
 returns-2 : tie.Need-returns-2
-unfolding numbers firstMisfit or_else require
+unfolding numbers first_misfit or_else require
 returns-2 c =
     let t = c.before in
     let s = t.before.before in
     c.outside2.ensures ∙ sym (rw (least t.before, above-greatest s.args.raw {m = 65535} (rw (back s) at t.if2.true) (omega arith)))
 
 returns-3 : tie.Need-returns-3
-unfolding numbers firstMisfit or_else require
+unfolding numbers first_misfit or_else require
 returns-3 c =
     let t = c.before in
     c.outside3.ensures ∙ sym (rw (least t.before.before, greatest t.before, lt-leb t.before.before.before.args.e 31 (omega arith)))
 
 returns-4 : tie.Need-returns-4
-unfolding numbers firstMisfit or_else require
+unfolding numbers first_misfit or_else require
 returns-4 c =
     let t = c.before in
     let s = t.before.before.before.before in
@@ -70,7 +70,7 @@ returns-4 c =
     ∙ sym (rw (least t.before.before.before, greatest t.before.before, le-leb s.args.e 31 t.before.if3.false, lt-leb s.args.f 2047 (omega arith)))
 
 returns-5 : tie.Need-returns-5
-unfolding numbers firstMisfit or_else require
+unfolding numbers first_misfit or_else require
 returns-5 c =
     let s = c.before.before.before.before in
     sym (rw (least c.before.before.before, greatest c.before.before, le-leb s.args.e 31 c.before.if3.false, le-leb s.args.f 2047 c.if4.false))

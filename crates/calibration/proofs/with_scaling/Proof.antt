@@ -11,20 +11,20 @@ use lib.Signed.{lt_z, non_neg}
 use mir.Syntax.{w32, w64}
 use mir.Val.{Fits, SFits, to_z, of_z}
 use mir.ValLaws.{to_z-of_z}
-use Rattle.calibration.specs.Reading.{exponentOf, fractionOf, reading, readingBy, scaledReading, operands}
+use Rattle.calibration.specs.Reading.{exponent_of, fraction_of, reading, reading_by, scaled_reading, operands}
 use Rattle.calibration.specs.Laws.{by-exponent-and-fraction, by-one-below-zero}
 use Rattle.calibration.proofs.with_scaling.Statement.{statement}
 use Rattle.calibration.proofs.with_scaling.Tie as tie
 
 -- a number below zero, and one that is not
-negative : (raw number : ℤ) → lt_z number (pos 0) ≡ true → reading operands raw 32 0 ≡ readingBy operands raw number
+negative : (raw number : ℤ) → lt_z number (pos 0) ≡ true → reading operands raw 32 0 ≡ reading_by operands raw number
 negative raw (pos n) h = let k = ltb-true n 0 h in absurd (omega arith)
 negative raw (negsuc n) h = sym (by-one-below-zero operands raw n)
 
 record Natural (raw number : ℤ) : Type 0 where
   sign : T (non_neg number)
   fits : Fits w64 (nat_abs number)
-  reads : reading operands raw (exponentOf (nat_abs number)) (fractionOf (nat_abs number)) ≡ readingBy operands raw number
+  reads : reading operands raw (exponent_of (nat_abs number)) (fraction_of (nat_abs number)) ≡ reading_by operands raw number
 
 natural : (raw number : ℤ) → SFits w32 number → lt_z number (pos 0) ≡ false → Natural raw number
 natural raw (pos n) f h = let k = f.sfits in record { sign = tt; fits = record { fits = omega arith }; reads = sym (by-exponent-and-fraction operands raw n) }
@@ -41,7 +41,7 @@ natural-number c =
 
 -- where the flag is clear, and where it is set
 returns : tie.Need-returns
-unfolding scaledReading
+unfolding scaled_reading
 returns c = rw (not-true c.before.args.scaling.given c.if1.true)
 
 given : (c : tie.Else1) → c.before.args.scaling.given ≡ true
@@ -51,7 +51,7 @@ with-scale-requires : tie.Need-with-scale-requires
 with-scale-requires c κs = search rules
 
 returns-2 : tie.Need-returns-2
-unfolding scaledReading
+unfolding scaled_reading
 returns-2 c =
     let t = c.before in
     let s = t.before.before.before in
@@ -64,7 +64,7 @@ with-scale-requires-2 : tie.Need-with-scale-requires-2
 with-scale-requires-2 c κs = search rules
 
 returns-3 : tie.Need-returns-3
-unfolding scaledReading
+unfolding scaled_reading
 returns-3 c =
     let b = c.before in
     let s = b.before.before.before in

@@ -12,11 +12,11 @@ use Rattle.channels.proofs.included_channels.Statement.{statement}
 use Rattle.channels.proofs.included_channels.Tie as tie
 
 -- its flag, as `included` has it
-abbrev isIncluded : Descriptor → Bool
-isIncluded c = c.included
+abbrev is_included : Descriptor → Bool
+is_included c = c.included
 
 abbrev invariant-loop : tie.invariant-loop
-invariant-loop d included₀ i₀ included i = (i ≤ 16) × (length included ≡ 16) × (map isIncluded d.channels ≡ flagging isIncluded included d.channels i)
+invariant-loop d included₀ i₀ included i = (i ≤ 16) × (length included ≡ 16) × (map is_included d.channels ≡ flagging is_included included d.channels i)
 
 abbrev decreases-loop : tie.decreases-loop
 decreases-loop d included₀ i₀ included i = 16 - i
@@ -48,13 +48,13 @@ loop-again c =
     let l = c.before.before in (
       omega arith,
       simp length-set l.loop.invariant.1,
-      l.loop.invariant.2 ∙ flag-next isIncluded _ _ _ _ (omega (arith, l.loop.invariant.1)) (omega (arith, sixteen l.before)) refl,
+      l.loop.invariant.2 ∙ flag-next is_included _ _ _ _ (omega (arith, l.loop.invariant.1)) (omega (arith, sixteen l.before)) refl,
     )
 
 returns : tie.Need-returns invariant-loop decreases-loop
 returns c =
     let l = c.before in
-    sym (l.loop.invariant.2 ∙ flagged-all isIncluded _ _ l.loop.i (omega (arith, sixteen l.before)) (omega (arith, l.loop.invariant.1)))
+    sym (l.loop.invariant.2 ∙ flagged-all is_included _ _ l.loop.i (omega (arith, sixteen l.before)) (omega (arith, l.loop.invariant.1)))
 
 pub included-channels-spec : {M : Type 1} → statement M
 included-channels-spec =

@@ -1,6 +1,6 @@
--- `channels::is_same` meets its contract: each pair of arms is a row of the table.
+-- `channels::is_same_lem` meets its contract: each pair of arms is a row of the table.
 use borrow.Author.Rules.{rules}
-use Rattle.channels.specs.Channel.{isSame}
+use Rattle.channels.specs.Channel.{is_same}
 use Rattle.channels.proofs.is_same.Statement.{statement}
 use Rattle.channels.proofs.is_same.Tie as tie
 
@@ -23,19 +23,19 @@ enum-told-6 : tie.Need-enum-told-6
 enum-told-6 c = search rules
 
 returns : tie.Need-returns
-unfolding isSame
+unfolding is_same
 returns c = rw (c.before.before.enum_told.given.1, c.enum-told2.given.1)
 
 returns-2 : tie.Need-returns-2
-unfolding isSame
+unfolding is_same
 returns-2 c = rw (c.before.before.enum_told.given.1, c.enum-told3.given.1)
 
 returns-3 : tie.Need-returns-3
-unfolding isSame
+unfolding is_same
 returns-3 c = rw (c.before.before.enum-told4.given.1, c.enum-told5.given.1)
 
 returns-4 : tie.Need-returns-4
-unfolding isSame
+unfolding is_same
 returns-4 c = rw (c.before.before.enum-told4.given.1, c.enum-told6.given.1)
 
 pub is-same-spec : {M : Type 1} → statement M

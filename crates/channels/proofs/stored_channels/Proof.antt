@@ -5,13 +5,13 @@ use Prim.Native.Nat.{◌≤◌, ◌-◌}
 use native.Mathlib.Omega.{arith}
 use borrow.Author.Rules.{rules}
 use lib.ListN.{length, length-map, length-set}
-use Rattle.channels.specs.Descriptors.{isStored}
+use Rattle.channels.specs.Descriptors.{is_stored}
 use Rattle.channels.proofs.Flagging.{flagging, flag-next, flagged-all}
 use Rattle.channels.proofs.stored_channels.Statement.{statement}
 use Rattle.channels.proofs.stored_channels.Tie as tie
 
 abbrev invariant-loop : tie.invariant-loop
-invariant-loop d stored₀ i₀ stored i = (i ≤ 16) × (length stored ≡ 16) × (map isStored d.channels ≡ flagging isStored stored d.channels i)
+invariant-loop d stored₀ i₀ stored i = (i ≤ 16) × (length stored ≡ 16) × (map is_stored d.channels ≡ flagging is_stored stored d.channels i)
 
 abbrev decreases-loop : tie.decreases-loop
 decreases-loop d stored₀ i₀ stored i = 16 - i
@@ -46,13 +46,13 @@ loop-again c =
     let l = c.before.before.before in (
       omega arith,
       simp length-set l.loop.invariant.1,
-      l.loop.invariant.2 ∙ flag-next isStored _ _ _ _ (omega (arith, l.loop.invariant.1)) (omega (arith, sixteen l.before)) c.is-stored.ensures,
+      l.loop.invariant.2 ∙ flag-next is_stored _ _ _ _ (omega (arith, l.loop.invariant.1)) (omega (arith, sixteen l.before)) c.is-stored.ensures,
     )
 
 returns : tie.Need-returns invariant-loop decreases-loop
 returns c =
     let l = c.before in
-    sym (l.loop.invariant.2 ∙ flagged-all isStored _ _ l.loop.i (omega (arith, sixteen l.before)) (omega (arith, l.loop.invariant.1)))
+    sym (l.loop.invariant.2 ∙ flagged-all is_stored _ _ l.loop.i (omega (arith, sixteen l.before)) (omega (arith, l.loop.invariant.1)))
 
 pub stored-channels-spec : {M : Type 1} → statement M
 stored-channels-spec =

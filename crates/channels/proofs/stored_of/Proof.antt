@@ -9,7 +9,7 @@ use mir.Syntax.{w32, w64}
 use mir.Val.{SFits, to_z, of_z}
 use mir.ValLaws.{to_z-of_z}
 use Rattle.channels.specs.Channel.{width_of}
-use Rattle.channels.specs.Stored.{offset, storedOf, storedIf, fits}
+use Rattle.channels.specs.Stored.{offset, stored_of, stored_if, fits}
 use Rattle.channels.specs.declared.Format.{Format}
 use Rattle.channels.proofs.Numbers.{offset-fits, wide, sum, sum_fits, limit, limit-fits, small, found}
 use Rattle.channels.proofs.stored_of.Statement.{statement}
@@ -50,7 +50,7 @@ most : (format : Format) (z : ℤ) → z ≡ pos (256 ^ width_of format) → to_
 most format z e = rw e (to_z-of_z w64 _ (limit-fits format))
 
 returns : tie.Need-returns
-unfolding storedIf fits
+unfolding stored_if fits
 returns c =
     let a = c.before.before.args in
     found (256 ^ width_of a.format) (meant c.before.before) true _ (rw (number c.before) at c.if1.true) refl _
@@ -74,7 +74,7 @@ module _ (c : tie.After-limit-of) where
   high t h = rw (most start.args.format c.limit-of.result c.limit-of.ensures, number c.before.before) at h
 
 returns-2 : tie.Need-returns-2
-unfolding storedIf fits
+unfolding stored_if fits
 returns-2 c =
     let s = start c.before in
     found (256 ^ width_of s.args.format) (meant s) false true (low c.before) (high c.before true c.if2.true) _
@@ -86,7 +86,7 @@ cast-t9 c =
     (small (256 ^ width_of s.args.format) (limit s.args.format) (meant s) (low c.before) (high c.before false c.if2.false))
 
 returns-3 : tie.Need-returns-3
-unfolding storedIf fits storedOf
+unfolding stored_if fits stored_of
 returns-3 c =
     let s = start c.before in
     rw (number c.before.before.before)

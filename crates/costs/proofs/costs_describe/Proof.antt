@@ -1,10 +1,10 @@
 -- `costs::costs_describe` meets its contract: the answer of `descriptions`, variant by variant.
 use mathlib.Core.Path.{◌≡◌, sym, ap, ap₂, ◌∙◌}
 use mathlib.Core.Logic.{⊎_elim}
-use Rattle.formats.specs.Reader.{readAt}
+use Rattle.formats.specs.Reader.{read_at}
 use Rattle.descriptions.specs.Description.{description}
 use Rattle.descriptions.specs.Read.{described}
-use Rattle.costs.specs.Handed.{formatIf, handedOutcome, handedDescription, handedChannel}
+use Rattle.costs.specs.Handed.{format_if, handed_outcome, handed_description, handed_channel}
 use borrow.Author.Rules.{rules}
 use Rattle.costs.proofs.costs_describe.Statement.{statement}
 use Rattle.costs.proofs.costs_describe.Tie as tie
@@ -40,28 +40,28 @@ place-of-requires : tie.Need-place-of-requires
 place-of-requires c κs = search rules
 
 -- the format is the one that was asked for
-format : (r : tie.Joined1) → r.if1.format ≡ formatIf r.before.before.args.compact
-unfolding formatIf
+format : (r : tie.Joined1) → r.if1.format ≡ format_if r.before.before.args.compact
+unfolding format_if
 format r = ⊎_elim (λ w. rw (w.1, w.0.taken)) (λ w. rw (w.1, w.0.left)) r.if1.branch
 
 read : (r : tie.After-read) → let a = r.before.before.before.args in
-    r.read.result ≡ described (formatIf a.compact) (readAt (description (formatIf a.compact)) a.bytes.now 0)
-read r = r.read.ensures ∙ ap (λ f. described f (readAt (description f) r.before.before.before.args.bytes.now 0)) (format r.before)
+    r.read.result ≡ described (format_if a.compact) (read_at (description (format_if a.compact)) a.bytes.now 0)
+read r = r.read.ensures ∙ ap (λ f. described f (read_at (description f) r.before.before.before.args.bytes.now 0)) (format r.before)
 
 returns : tie.Need-returns
-unfolding handedDescription handedChannel
+unfolding handed_description handed_channel
 returns c =
     let v = c.before in
     let s = v.before.before in
-    ap₂ handedOutcome s.said_of.ensures (sym v.outcome.given.1) ∙ ap (handedDescription _) (read s.before.before.before)
+    ap₂ handed_outcome s.said_of.ensures (sym v.outcome.given.1) ∙ ap (handed_description _) (read s.before.before.before)
 
 returns-2 : tie.Need-returns-2
-unfolding handedDescription handedChannel
+unfolding handed_description handed_channel
 returns-2 c =
     let v = c.before.before.before.before in
     let s = v.before.before in
     rw (c.before.number.ensures, c.place_of.ensures, c.before.before.of.ensures)
-    (ap₂ handedOutcome s.said_of.ensures (sym v.outcome2.given.1) ∙ ap (handedDescription _) (read s.before.before.before))
+    (ap₂ handed_outcome s.said_of.ensures (sym v.outcome2.given.1) ∙ ap (handed_description _) (read s.before.before.before))
 
 pub costs-describe-spec : {M : Type 1} → statement M
 costs-describe-spec =

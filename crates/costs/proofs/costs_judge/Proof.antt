@@ -1,6 +1,6 @@
 -- `costs::costs_judge` meets its contract: the answer of `records`, variant by variant.
 use mathlib.Core.Path.{sym, ap, ap₂, ◌∙◌}
-use Rattle.costs.specs.Handed.{handedVerdict, handedJudgement, handedChannel}
+use Rattle.costs.specs.Handed.{handed_verdict, handed_judgement, handed_channel}
 use borrow.Author.Rules.{rules}
 use Rattle.costs.proofs.costs_judge.Statement.{statement}
 use Rattle.costs.proofs.costs_judge.Tie as tie
@@ -33,19 +33,19 @@ place-of-requires : tie.Need-place-of-requires
 place-of-requires c κs = search rules
 
 returns : tie.Need-returns
-unfolding handedJudgement handedChannel
+unfolding handed_judgement handed_channel
 returns c =
     let v = c.before in
     let s = v.before.before in
-    ap₂ handedVerdict s.said_of.ensures (sym v.verdict.given.1) ∙ ap (handedJudgement _) s.before.before.before.judge.ensures
+    ap₂ handed_verdict s.said_of.ensures (sym v.verdict.given.1) ∙ ap (handed_judgement _) s.before.before.before.judge.ensures
 
 returns-2 : tie.Need-returns-2
-unfolding handedJudgement handedChannel
+unfolding handed_judgement handed_channel
 returns-2 c =
     let v = c.before.before.before in
     let s = v.before.before in
     rw (c.before.number.ensures, c.place_of.ensures)
-    (ap₂ handedVerdict s.said_of.ensures (sym v.verdict2.given.1) ∙ ap (handedJudgement _) s.before.before.before.judge.ensures)
+    (ap₂ handed_verdict s.said_of.ensures (sym v.verdict2.given.1) ∙ ap (handed_judgement _) s.before.before.before.judge.ensures)
 
 pub costs-judge-spec : {M : Type 1} → statement M
 costs-judge-spec =

@@ -1,6 +1,6 @@
 -- `costs::costs_point` meets its contract: one of the sixteen places that `records` has.
 use mathlib.Core.Path.{ap, ◌∙◌}
-use Rattle.costs.specs.Handed.{handedPoint}
+use Rattle.costs.specs.Handed.{handed_point}
 use borrow.Author.Rules.{rules}
 use Rattle.costs.proofs.costs_point.Statement.{statement}
 use Rattle.costs.proofs.costs_point.Tie as tie
@@ -18,8 +18,8 @@ seat-of-requires : tie.Need-seat-of-requires
 seat-of-requires c κs = search rules
 
 returns : tie.Need-returns
-unfolding handedPoint
-returns c = c.seat-of.ensures ∙ ap (handedPoint _) c.before.before.point.ensures
+unfolding handed_point
+returns c = c.seat-of.ensures ∙ ap (handed_point _) c.before.before.point.ensures
 
 pub costs-point-spec : {M : Type 1} → statement M
 costs-point-spec =

@@ -1,6 +1,6 @@
 -- `costs::costs_read_template` meets its contract: the answer of `templates`, variant by variant.
 use mathlib.Core.Path.{sym, ap, ◌∙◌}
-use Rattle.costs.specs.Handed.{handedStage, handedReadTemplate, handedChannel}
+use Rattle.costs.specs.Handed.{handed_stage, handed_read_template, handed_channel}
 use borrow.Author.Rules.{rules}
 use Rattle.costs.proofs.costs_read_template.Statement.{statement}
 use Rattle.costs.proofs.costs_read_template.Tie as tie
@@ -33,21 +33,21 @@ place-of-requires : tie.Need-place-of-requires
 place-of-requires c κs = search rules
 
 returns : tie.Need-returns
-unfolding handedReadTemplate handedChannel
+unfolding handed_read_template handed_channel
 returns c =
     let s = c.before.before in
     let t = s.before.before.before.before.read in
     rw s.said_of.ensures
-    (ap (handedStage _ t.result.template) (sym c.enum_told.given.1) ∙ ap (handedReadTemplate _) t.ensures)
+    (ap (handed_stage _ t.result.template) (sym c.enum_told.given.1) ∙ ap (handed_read_template _) t.ensures)
 
 returns-2 : tie.Need-returns-2
-unfolding handedReadTemplate handedChannel
+unfolding handed_read_template handed_channel
 returns-2 c =
     let v = c.before.before.before in
     let s = v.before.before in
     let t = s.before.before.before.before.read in
     rw (c.before.number.ensures, c.place_of.ensures, s.said_of.ensures)
-    (ap (handedStage _ t.result.template) (sym v.verdict.given.1) ∙ ap (handedReadTemplate _) t.ensures)
+    (ap (handed_stage _ t.result.template) (sym v.verdict.given.1) ∙ ap (handed_read_template _) t.ensures)
 
 pub costs-read-template-spec : {M : Type 1} → statement M
 costs-read-template-spec =

@@ -1,6 +1,6 @@
 -- `costs::costs_step` meets its contract: the step of `walks`, variant by variant.
 use mathlib.Core.Path.{sym, ap, ◌∙◌}
-use Rattle.costs.specs.Handed.{handedFound, handedStep}
+use Rattle.costs.specs.Handed.{handed_found, handed_step}
 use borrow.Author.Rules.{rules}
 use Rattle.costs.proofs.costs_step.Statement.{statement}
 use Rattle.costs.proofs.costs_step.Tie as tie
@@ -27,24 +27,24 @@ place-of-requires : tie.Need-place-of-requires
 place-of-requires c κs = search rules
 
 returns : tie.Need-returns
-unfolding handedStep
+unfolding handed_step
 returns c =
     let s = c.before.before.before.step-at in
-    ap (handedFound s.result.next) (sym c.before.found.given.1) ∙ ap handedStep s.ensures
+    ap (handed_found s.result.next) (sym c.before.found.given.1) ∙ ap handed_step s.ensures
 
 returns-2 : tie.Need-returns-2
-unfolding handedStep
+unfolding handed_step
 returns-2 c =
     let s = c.before.before.step-at in
-    ap (handedFound s.result.next) (sym c.enum_told.given.1) ∙ ap handedStep s.ensures
+    ap (handed_found s.result.next) (sym c.enum_told.given.1) ∙ ap handed_step s.ensures
 
 returns-3 : tie.Need-returns-3
-unfolding handedStep
+unfolding handed_step
 returns-3 c =
     let v = c.before.before.before in
     let s = v.before.before.step-at in
     rw (c.before.number.ensures, c.place_of.ensures)
-    (ap (handedFound s.result.next) (sym v.found2.given.1) ∙ ap handedStep s.ensures)
+    (ap (handed_found s.result.next) (sym v.found2.given.1) ∙ ap handed_step s.ensures)
 
 pub costs-step-spec : {M : Type 1} → statement M
 costs-step-spec =

@@ -1,7 +1,7 @@
 -- `costs::costs_write` meets its contract: what `record_writing` answers, and the bytes as it leaves them.
-use Rattle.record_writing.specs.Write.{writeOf}
+use Rattle.record_writing.specs.Write.{write_of}
 use Rattle.channels.specs.declared.Format.TheVariants.{Full}
-use Rattle.costs.specs.Handed.{handedRecord}
+use Rattle.costs.specs.Handed.{handed_record}
 use Rattle.costs.proofs.Writings.{handed-over}
 use borrow.Author.Rules.{rules}
 use Rattle.costs.proofs.costs_write.Statement.{statement}
@@ -33,7 +33,7 @@ returns c =
     let w = c.before.before.before.before.before in
     let r = w.before.before.before in
     let a = r.before.before.before.before.args in
-    handed-over handedRecord (λ d. writeOf d a.count a.values.now a.wanted a.extended.now a.out.now) Full a.header.now r.read.ensures c.before.written.given.1 w.write.ensures
+    handed-over handed_record (λ d. write_of d a.count a.values.now a.wanted a.extended.now a.out.now) Full a.header.now r.read.ensures c.before.written.given.1 w.write.ensures
 
 same-length-2 : tie.Need-same-length-2
 same-length-2 c = search rules
@@ -44,7 +44,7 @@ returns-2 c =
     let w = v.before.before.before.before in
     let r = w.before.before.before in
     let a = r.before.before.before.before.args in
-    rw c.number.ensures (handed-over handedRecord (λ d. writeOf d a.count a.values.now a.wanted a.extended.now a.out.now) Full a.header.now r.read.ensures v.written2.given.1 w.write.ensures)
+    rw c.number.ensures (handed-over handed_record (λ d. write_of d a.count a.values.now a.wanted a.extended.now a.out.now) Full a.header.now r.read.ensures v.written2.given.1 w.write.ensures)
 
 pub costs-write-spec : {M : Type 1} → statement M
 costs-write-spec =

@@ -1,8 +1,8 @@
 -- `costs::costs_write_template` meets its contract: what `template_writing` answers, and the bytes as it leaves them.
 use mathlib.Core.Bool.{true}
-use Rattle.template_writing.specs.Writing.{writeOf}
+use Rattle.template_writing.specs.Writing.{write_of}
 use Rattle.channels.specs.declared.Format.TheVariants.{Compact}
-use Rattle.costs.specs.Handed.{handedTemplate}
+use Rattle.costs.specs.Handed.{handed_template}
 use Rattle.costs.proofs.Writings.{handed-over}
 use borrow.Author.Rules.{rules}
 use Rattle.costs.proofs.costs_write_template.Statement.{statement}
@@ -34,7 +34,7 @@ returns c =
     let w = c.before.before.before.before.before in
     let r = w.before.before.before in
     let a = r.before.before.before.args in
-    handed-over handedTemplate (λ d. writeOf true d a.limited a.maximum a.out.now) Compact a.header.now r.read.ensures c.before.written.given.1 w.write.ensures
+    handed-over handed_template (λ d. write_of true d a.limited a.maximum a.out.now) Compact a.header.now r.read.ensures c.before.written.given.1 w.write.ensures
 
 same-length-2 : tie.Need-same-length-2
 same-length-2 c = search rules
@@ -45,7 +45,7 @@ returns-2 c =
     let w = v.before.before.before.before in
     let r = w.before.before.before in
     let a = r.before.before.before.args in
-    rw c.number.ensures (handed-over handedTemplate (λ d. writeOf true d a.limited a.maximum a.out.now) Compact a.header.now r.read.ensures v.written2.given.1 w.write.ensures)
+    rw c.number.ensures (handed-over handed_template (λ d. write_of true d a.limited a.maximum a.out.now) Compact a.header.now r.read.ensures v.written2.given.1 w.write.ensures)
 
 pub costs-write-template-spec : {M : Type 1} → statement M
 costs-write-template-spec =

@@ -4,13 +4,13 @@ use mathlib.Core.List.{List, [], ◌∷◌}
 use Prim.Native.Nat.{ℕ}
 use lib.ListN.{length}
 use Rattle.formats.specs.Bytes.{impossible}
-use Rattle.costs.specs.Handed.{pieceOf}
+use Rattle.costs.specs.Handed.{piece_of}
 use borrow.Author.Rules.{rules}
 use Rattle.costs.proofs.piece_of.Statement.{statement}
 use Rattle.costs.proofs.piece_of.Tie as tie
 
-empty : (part : List ℕ) → length part ≡ 0 → record { length = 0; first = 0 } ≡ pieceOf part
-unfolding pieceOf
+empty : (part : List ℕ) → length part ≡ 0 → record { length = 0; first = 0 } ≡ piece_of part
+unfolding piece_of
 empty [] e = refl
 empty (x ∷ part) e = impossible (cc)
 
@@ -21,7 +21,7 @@ shared-slice-read-t5 : tie.Need-shared-slice-read-t5
 shared-slice-read-t5 c = search rules
 
 returns-2 : tie.Need-returns-2
-unfolding pieceOf
+unfolding piece_of
 returns-2 c = search rules
 
 pub piece-of-spec : {M : Type 1} → statement M

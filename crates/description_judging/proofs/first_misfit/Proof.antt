@@ -6,20 +6,20 @@ use borrow.Author.Rules.{rules}
 use lib.Dec.{T}
 use lib.ListN.{length, drop, get_or, length-map}
 use Rattle.refusals.specs.Stages.{or_else}
-use Rattle.refusals.specs.Ranges.{firstMisfit}
+use Rattle.refusals.specs.Ranges.{first_misfit}
 use Rattle.refusals.specs.declared.Judgement.{Judgement}
 use Rattle.channels.specs.Channel.{width_of}
 use Rattle.channels.specs.Descriptors.{absent}
-use Rattle.descriptions.specs.Description.{tidyDescriptor, neat, every}
-use Rattle.description_judging.specs.Judging.{numbersOf, numbersFrom, numbers}
+use Rattle.descriptions.specs.Description.{tidy_descriptor, neat, every}
+use Rattle.description_judging.specs.Judging.{numbers_of, numbers_from, numbers}
 use Rattle.description_judging.proofs.Judging.{every_holds, numbers-next, numbers-none}
 use Rattle.description_judging.proofs.first_misfit.Statement.{statement}
 use Rattle.description_judging.proofs.first_misfit.Tie as tie
 
 abbrev invariant-loop : tie.invariant-loop
 invariant-loop format description i₀ i =
-    (i ≤ 16) × T (every (λ channel. tidyDescriptor) i (drop i description.channels))
-    × (firstMisfit (numbers (width_of format) description) ≡ firstMisfit (numbersFrom (width_of format) i (drop i description.channels)))
+    (i ≤ 16) × T (every (λ channel. tidy_descriptor) i (drop i description.channels))
+    × (first_misfit (numbers (width_of format) description) ≡ first_misfit (numbers_from (width_of format) i (drop i description.channels)))
 
 abbrev decreases-loop : tie.decreases-loop
 decreases-loop format description i₀ i = 16 - i
@@ -45,14 +45,14 @@ module _ (c : tie.In-loop invariant-loop decreases-loop) where
   inside : c.before.loop.i < length start.args.t1.channels
   inside = omega (arith, sixteen start)
 
-  tidied : T (tidyDescriptor (get_or start.args.t1.channels c.before.loop.i absent)) × T (every (λ channel. tidyDescriptor) (c.before.loop.i + 1) (drop (c.before.loop.i + 1) start.args.t1.channels))
-  tidied = every_holds (λ channel. tidyDescriptor) start.args.t1.channels c.before.loop.i inside c.before.loop.invariant.1
+  tidied : T (tidy_descriptor (get_or start.args.t1.channels c.before.loop.i absent)) × T (every (λ channel. tidy_descriptor) (c.before.loop.i + 1) (drop (c.before.loop.i + 1) start.args.t1.channels))
+  tidied = every_holds (λ channel. tidy_descriptor) start.args.t1.channels c.before.loop.i inside c.before.loop.invariant.1
 
   abbrev later : Judgement
-  later = firstMisfit (numbersFrom (width_of start.args.format) (c.before.loop.i + 1) (drop (c.before.loop.i + 1) start.args.t1.channels))
+  later = first_misfit (numbers_from (width_of start.args.format) (c.before.loop.i + 1) (drop (c.before.loop.i + 1) start.args.t1.channels))
 
-  judged : {f : Judgement} → firstMisfit (numbersOf (width_of start.args.format) c.before.loop.i (get_or start.args.t1.channels c.before.loop.i absent)) ≡ f
-      → firstMisfit (numbers (width_of start.args.format) start.args.t1) ≡ or_else f later
+  judged : {f : Judgement} → first_misfit (numbers_of (width_of start.args.format) c.before.loop.i (get_or start.args.t1.channels c.before.loop.i absent)) ≡ f
+      → first_misfit (numbers (width_of start.args.format) start.args.t1) ≡ or_else f later
   judged e = c.before.loop.invariant.2 ∙ numbers-next (width_of start.args.format) start.args.t1.channels c.before.loop.i inside ∙ ap (λ f. or_else f later) e
 
 judge-numbers-requires : tie.Need-judge-numbers-requires invariant-loop decreases-loop

@@ -1,7 +1,7 @@
 -- `description_judging::has_x_and_y` meets its contract: it is the definition.
 use mathlib.Core.Path.{refl}
 use borrow.Author.Rules.{rules}
-use Rattle.descriptions.specs.Description.{includesXY}
+use Rattle.descriptions.specs.Description.{includes_xy}
 use Rattle.description_judging.proofs.has_x_and_y.Statement.{statement}
 use Rattle.description_judging.proofs.has_x_and_y.Tie as tie
 
@@ -12,7 +12,7 @@ element-copy-out-y : tie.Need-element-copy-out-y
 element-copy-out-y c = search rules
 
 returns : tie.Need-returns
-unfolding includesXY
+unfolding includes_xy
 returns c = refl
 
 pub has-x-and-y-spec : {M : Type 1} → statement M

@@ -5,13 +5,13 @@ use native.Mathlib.Omega.{arith}
 use borrow.Author.Rules.{rules}
 use borrow.Author.Tests.{not-true, not-false}
 use lib.ListN.{length, drop, length-map}
-use Rattle.descriptions.specs.Description.{tidyDescriptor, neat, every}
+use Rattle.descriptions.specs.Description.{tidy_descriptor, neat, every}
 use Rattle.description_judging.proofs.Judging.{every-none, every-fails, every-passes}
 use Rattle.description_judging.proofs.is_neat.Statement.{statement}
 use Rattle.description_judging.proofs.is_neat.Tie as tie
 
 abbrev invariant-loop : tie.invariant-loop
-invariant-loop description i₀ i = (i ≤ 16) × (neat description ≡ every (λ channel. tidyDescriptor) i (drop i description.channels))
+invariant-loop description i₀ i = (i ≤ 16) × (neat description ≡ every (λ channel. tidy_descriptor) i (drop i description.channels))
 
 abbrev decreases-loop : tie.decreases-loop
 decreases-loop description i₀ i = 16 - i
@@ -39,7 +39,7 @@ returns c =
     sym
     (l.loop.invariant.1
     ∙ every-fails
-    (λ channel. tidyDescriptor)
+    (λ channel. tidy_descriptor)
     l.before.args.t1.channels
     l.loop.i
     (omega (arith, sixteen l.before))
@@ -58,7 +58,7 @@ loop-again c =
       search rules,
       l.loop.invariant.1
           ∙ every-passes
-          (λ channel. tidyDescriptor)
+          (λ channel. tidy_descriptor)
           l.before.args.t1.channels
           l.loop.i
           (omega (arith, sixteen l.before))
@@ -68,7 +68,7 @@ loop-again c =
 returns-2 : tie.Need-returns-2 invariant-loop decreases-loop
 returns-2 c =
     let l = c.before in
-    sym (l.loop.invariant.1 ∙ every-none (λ channel. tidyDescriptor) l.before.args.t1.channels l.loop.i (omega (arith, sixteen l.before)))
+    sym (l.loop.invariant.1 ∙ every-none (λ channel. tidy_descriptor) l.before.args.t1.channels l.loop.i (omega (arith, sixteen l.before)))
 
 pub is-neat-spec : {M : Type 1} → statement M
 is-neat-spec =

@@ -10,14 +10,14 @@ use Rattle.channels.specs.BitLaws.{SignsLeft, moved_on, signs-none, sign-first}
 use Rattle.channels.specs.Channel.{width_of}
 use Rattle.channels.specs.declared.Descriptor.{Descriptor}
 use Rattle.channels.specs.Descriptors.{absent}
-use Rattle.descriptions.specs.Description.{tidyDescriptor, fitsDescriptor, neat, all_fit, every}
+use Rattle.descriptions.specs.Description.{tidy_descriptor, fits_descriptor, neat, all_fit, every}
 use Rattle.description_judging.proofs.Judging.{every-both, every-none, every-fails, every-passes}
 use Rattle.description_judging.proofs.is_sound.Statement.{statement}
 use Rattle.description_judging.proofs.is_sound.Tie as tie
 
 -- both tests of a channel
 abbrev sound : ℕ → ℕ → Descriptor → Bool
-sound w channel d = tidyDescriptor d && fitsDescriptor w channel d
+sound w channel d = tidy_descriptor d && fits_descriptor w channel d
 
 abbrev invariant-loop : tie.invariant-loop
 invariant-loop format description signs₀ i₀ signs i =
@@ -34,7 +34,7 @@ signs-requires c κs = search rules
 
 loop-holds : tie.Need-loop-init invariant-loop decreases-loop
 unfolding neat all_fit
-loop-holds c = (omega arith, signs-none c.signs.ensures, every-both (λ channel. tidyDescriptor) (fitsDescriptor (width_of c.before.args.format)) 0 c.before.args.t1.channels)
+loop-holds c = (omega arith, signs-none c.signs.ensures, every-both (λ channel. tidy_descriptor) (fits_descriptor (width_of c.before.args.format)) 0 c.before.args.t1.channels)
 
 mul-d : tie.Need-overflow-mul-d invariant-loop decreases-loop
 mul-d c = search rules

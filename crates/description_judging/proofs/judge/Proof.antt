@@ -4,9 +4,9 @@ use mathlib.Core.Bool.{true}
 use borrow.Author.Rules.{rules}
 use borrow.Author.Tests.{not-true, not-false}
 use Rattle.refusals.specs.Stages.{require, or_else, stages, or-else-last}
-use Rattle.channels.specs.Channel.{isSame, width_of}
-use Rattle.descriptions.specs.Description.{includesXY, neat, all_fit}
-use Rattle.description_judging.specs.Judging.{neatIn, judgementOf}
+use Rattle.channels.specs.Channel.{is_same, width_of}
+use Rattle.descriptions.specs.Description.{includes_xy, neat, all_fit}
+use Rattle.description_judging.specs.Judging.{neat_in, judgement_of}
 use Rattle.description_judging.specs.JudgingLaws.{both, all_pass}
 use Rattle.description_judging.proofs.judge.Statement.{statement}
 use Rattle.description_judging.proofs.judge.Tie as tie
@@ -24,22 +24,22 @@ is-neat-requires : tie.Need-is-neat-requires
 is-neat-requires c κs = search rules
 
 returns : tie.Need-returns
-unfolding judgementOf stages or_else require
+unfolding judgement_of stages or_else require
 returns c = rw (sym c.before.has-x-and-y.ensures ∙ not-true _ c.if1.true)
 
 -- the tests, as the definition has them
-complete : (c : tie.Else1) → includesXY c.before.before.before.args.description ≡ true
+complete : (c : tie.Else1) → includes_xy c.before.before.before.args.description ≡ true
 complete c = sym c.before.has-x-and-y.ensures ∙ not-false _ c.if1.false
 
-marked : (c : tie.Else2) → let a = c.before.before.before.before.before.args in isSame a.description.mark a.format ≡ true
+marked : (c : tie.Else2) → let a = c.before.before.before.before.before.args in is_same a.description.mark a.format ≡ true
 marked c = sym c.before.is_same.ensures ∙ not-false _ c.if2.false
 
 returns-2 : tie.Need-returns-2
-unfolding judgementOf neatIn stages or_else require
+unfolding judgement_of neat_in stages or_else require
 returns-2 c = rw (complete c.before.before, sym c.before.is_same.ensures ∙ not-true _ c.if2.true)
 
 returns-3 : tie.Need-returns-3
-unfolding judgementOf neatIn stages or_else require
+unfolding judgement_of neat_in stages or_else require
 returns-3 c =
     let e = c.before in
     let m = e.before.before.before.before in
@@ -49,7 +49,7 @@ returns-3 c =
     rw (complete e.before.before, marked e, p.0, all_pass w d p.1)
 
 returns-4 : tie.Need-returns-4
-unfolding judgementOf neatIn stages or_else require
+unfolding judgement_of neat_in stages or_else require
 returns-4 c =
     let t = c.before in
     rw (complete t.before.before.before.before, marked t.before.before, sym t.is-neat.ensures ∙ not-true _ c.if4.true)
@@ -62,7 +62,7 @@ first-misfit-requires : tie.Need-first-misfit-requires
 first-misfit-requires c κs = rw (tidied c) tt
 
 returns-5 : tie.Need-returns-5
-unfolding judgementOf neatIn stages or_else require
+unfolding judgement_of neat_in stages or_else require
 returns-5 c =
     let t = c.before.before in
     c.first-misfit.ensures ∙ sym (rw (complete t.before.before.before.before, marked t.before.before, tidied c.before) (or-else-last _))

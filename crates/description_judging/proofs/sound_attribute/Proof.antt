@@ -10,7 +10,7 @@ use mir.Syntax.{w32}
 use mir.Val.{to_z, of_z}
 use mir.ValLaws.{to_z-of_z}
 use Rattle.channels.specs.Stored.{value_of}
-use Rattle.descriptions.specs.Description.{tidyAttribute, fitsAttribute}
+use Rattle.descriptions.specs.Description.{tidy_attribute, fits_attribute}
 use Rattle.description_judging.proofs.Judging.{sound-attribute}
 use Rattle.description_judging.proofs.sound_attribute.Statement.{statement}
 use Rattle.description_judging.proofs.sound_attribute.Tie as tie
@@ -37,7 +37,7 @@ module _ (c : tie.Joined2) (w : ℕ) (signed : Bool) where
 
   sound : start.args.least ≡ value_of w signed 0 → start.args.most ≡ value_of w signed (256 ^ w - 1)
       → (le_z (to_z w32 c.before.if1.first) (to_z w32 (of_z w32 start.args.attribute.number)) && le_z (to_z w32 (of_z w32 start.args.attribute.number)) (to_z w32 c.if2.new))
-      ≡ (tidyAttribute start.args.attribute && fitsAttribute w signed start.args.attribute)
+      ≡ (tidy_attribute start.args.attribute && fits_attribute w signed start.args.attribute)
   sound p q =
       rw (to_z-of_z w32 start.args.attribute.number (search rules))
       (sound-attribute start.args.attribute w signed (rw p at (first c.before)) (rw q at (last c)))

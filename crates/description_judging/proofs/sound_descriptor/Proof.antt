@@ -11,7 +11,7 @@ use mir.ValLaws.{to_z-of_z}
 use Rattle.channels.specs.Channel.{width_of, signed_of}
 use Rattle.channels.specs.Stored.{offset, value_of}
 use Rattle.descriptions.specs.Description.{flagless}
-use Rattle.description_judging.proofs.Judging.{toScaling, toMinimum, toMaximum, toMean, toDeviation, all_asked, asked, not-asked, largest-deviation}
+use Rattle.description_judging.proofs.Judging.{to_scaling, to_minimum, to_maximum, to_mean, to_deviation, all_asked, asked, not-asked, largest-deviation}
 use Rattle.description_judging.proofs.sound_descriptor.Statement.{statement}
 use Rattle.description_judging.proofs.sound_descriptor.Tie as tie
 
@@ -61,7 +61,7 @@ module _ (c : tie.After-sound-attribute) where
   abbrev start : tie.Start
   start = c.before.before.before.before
 
-  scaling-asked : c.sound-attribute.result ≡ toScaling start.args.d
+  scaling-asked : c.sound-attribute.result ≡ to_scaling start.args.d
   unfolding value_of offset
   scaling-asked = c.sound-attribute.ensures 2 false refl refl
 
@@ -70,7 +70,7 @@ module _ (channel : ℕ) where
   Signed c = (start c).args.signed ≡ signed_of channel
 
   abbrev Minimum : tie.Joined1 → Type 0
-  Minimum c = c.if1.if2 ≡ toMinimum (width_of (start c.before).args.format) channel (start c.before).args.d
+  Minimum c = c.if1.if2 ≡ to_minimum (width_of (start c.before).args.format) channel (start c.before).args.d
 
   minimum-asked : (c : tie.Joined1) → Signed c.before → Minimum c
   minimum-asked c h =
@@ -79,7 +79,7 @@ module _ (channel : ℕ) where
       ⊎_elim {C = Minimum c} (λ w. w.2 ∙ asked e w.0.taken (w.1.ensures _ _ (least channel v h) (most channel v h))) (λ w. w.1 ∙ not-asked e _ w.0.left) c.if1.branch
 
   abbrev Maximum : tie.Joined2 → Type 0
-  Maximum c = c.if2.if3 ≡ toMaximum (width_of (start c.before.before).args.format) channel (start c.before.before).args.d
+  Maximum c = c.if2.if3 ≡ to_maximum (width_of (start c.before.before).args.format) channel (start c.before.before).args.d
 
   maximum-asked : (c : tie.Joined2) → Signed c.before.before → Maximum c
   maximum-asked c h =
@@ -88,7 +88,7 @@ module _ (channel : ℕ) where
       ⊎_elim {C = Maximum c} (λ w. w.2 ∙ asked e w.0.taken (w.1.ensures _ _ (least channel v h) (most channel v h))) (λ w. w.1 ∙ not-asked e _ w.0.left) c.if2.branch
 
   abbrev Mean : tie.Joined3 → Type 0
-  Mean c = c.if3.if4 ≡ toMean (width_of (start c.before.before.before).args.format) channel (start c.before.before.before).args.d
+  Mean c = c.if3.if4 ≡ to_mean (width_of (start c.before.before.before).args.format) channel (start c.before.before.before).args.d
 
   mean-asked : (c : tie.Joined3) → Signed c.before.before.before → Mean c
   mean-asked c h =
@@ -97,7 +97,7 @@ module _ (channel : ℕ) where
       ⊎_elim {C = Mean c} (λ w. w.2 ∙ asked e w.0.taken (w.1.ensures _ _ (least channel v h) (most channel v h))) (λ w. w.1 ∙ not-asked e _ w.0.left) c.if3.branch
 
   abbrev Deviation : tie.Joined4 → Type 0
-  Deviation c = c.if4.if5 ≡ toDeviation (width_of (start c.before.before.before.before).args.format) channel (start c.before.before.before.before).args.d
+  Deviation c = c.if4.if5 ≡ to_deviation (width_of (start c.before.before.before.before).args.format) channel (start c.before.before.before.before).args.d
 
   deviation-asked : (c : tie.Joined4) → Signed c.before.before.before.before → Deviation c
   unfolding value_of offset

@@ -2,13 +2,13 @@
 use mathlib.Core.Path.{ap}
 use mathlib.Core.Bool.{◌||◌}
 use borrow.Author.Rules.{rules}
-use Rattle.descriptions.specs.Description.{tidyAttribute}
+use Rattle.descriptions.specs.Description.{tidy_attribute}
 use Rattle.description_judging.proofs.Judging.{zero_bits}
 use Rattle.description_judging.proofs.tidy_attribute.Statement.{statement}
 use Rattle.description_judging.proofs.tidy_attribute.Tie as tie
 
 returns : tie.Need-returns
-unfolding tidyAttribute
+unfolding tidy_attribute
 returns c =
     let a = c.before.before.before.args.attribute in
     ap (λ t. a.given || t) (zero_bits a.number (search rules))

@@ -1,6 +1,6 @@
 -- `description_judging::tidy_descriptor` meets its contract: it is the definition, by what each call answers.
 use borrow.Author.Rules.{rules}
-use Rattle.descriptions.specs.Description.{tidyDescriptor}
+use Rattle.descriptions.specs.Description.{tidy_descriptor}
 use Rattle.description_judging.proofs.tidy_descriptor.Statement.{statement}
 use Rattle.description_judging.proofs.tidy_descriptor.Tie as tie
 
@@ -23,7 +23,7 @@ tidy-attribute-requires-5 : tie.Need-tidy-attribute-requires-5
 tidy-attribute-requires-5 c κs = search rules
 
 returns : tie.Need-returns
-unfolding tidyDescriptor
+unfolding tidy_descriptor
 returns c =
     let e = c.before.before.before.before in
     rw (

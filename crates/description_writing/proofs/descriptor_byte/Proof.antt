@@ -2,7 +2,7 @@
 use native.Mathlib.Omega.{arith}
 use borrow.Author.Rules.{rules}
 use Rattle.formats.specs.Binary.{binary}
-use Rattle.descriptions.specs.Description.{descriptorByte}
+use Rattle.descriptions.specs.Description.{descriptor_byte}
 use Rattle.description_writing.proofs.descriptor_byte.Statement.{statement}
 use Rattle.description_writing.proofs.descriptor_byte.Tie as tie
 
@@ -49,7 +49,7 @@ cast-result : tie.Need-overflow-cast-result
 cast-result c = search rules
 
 returns : tie.Need-returns
-unfolding descriptorByte binary
+unfolding descriptor_byte binary
 returns c =
     let f = c.before.before.before.before in
     rw (

@@ -6,7 +6,7 @@ use borrow.Author.Tests.{le-leb}
 use lib.Dec.{leb}
 use lib.ListN.{length}
 use Rattle.channels.specs.Channel.{width_of}
-use Rattle.descriptions.specs.Description.{encodeDescription}
+use Rattle.descriptions.specs.Description.{encode_description}
 use Rattle.descriptions.specs.SizeLaws.{description-size}
 use Rattle.description_writing.proofs.has_room.Statement.{statement}
 use Rattle.description_writing.proofs.has_room.Tie as tie
@@ -23,7 +23,7 @@ returns c =
     let a = m.before.args in
     let w = width_of a.format in
     le-leb _ _ c.if1.true
-    ∙ sym (le-leb (length (encodeDescription w a.description)) a.room (omega (arith, m.longest.ensures, description-size w a.description)))
+    ∙ sym (le-leb (length (encode_description w a.description)) a.room (omega (arith, m.longest.ensures, description-size w a.description)))
 
 returns-2 : tie.Need-returns-2
 returns-2 c = ap (λ n. leb n c.before.before.before.args.room) c.size.ensures

@@ -1,9 +1,9 @@
 -- `description_writing::put` meets its contract: a refusal decides before the room does, and where there is none all numbers fit.
 use mathlib.Core.Path.{◌≡◌, sym, ◌∙◌}
 use borrow.Author.Rules.{rules}
-use Rattle.description_judging.specs.Judging.{judgementOf}
+use Rattle.description_judging.specs.Judging.{judgement_of}
 use Rattle.description_judging.specs.JudgingLaws.{passed-sound}
-use Rattle.description_writing.specs.Write.{putJudged, putIf}
+use Rattle.description_writing.specs.Write.{put_judged, put_if}
 use Rattle.description_writing.specs.WriteLaws.{put_refused}
 use Rattle.description_writing.proofs.put.Statement.{statement}
 use Rattle.description_writing.proofs.put.Tie as tie
@@ -18,7 +18,7 @@ enum_told : tie.Need-enum-told
 enum_told c = search rules
 
 -- the judgement is the definition's
-judged : (m : tie.After-judge) → judgementOf m.before.before.args.format m.before.before.args.description ≡ m.judge.result
+judged : (m : tie.After-judge) → judgement_of m.before.before.args.format m.before.before.args.description ≡ m.judge.result
 judged m = sym m.judge.ensures
 
 returns : tie.Need-returns
@@ -33,7 +33,7 @@ same_length : tie.Need-same-length
 same_length c = search rules
 
 returns-2 : tie.Need-returns-2
-unfolding putIf putJudged
+unfolding put_if put_judged
 returns-2 c =
     let p = c.before.before in
     let e = p.before.before in

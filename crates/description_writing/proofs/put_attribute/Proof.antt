@@ -15,9 +15,9 @@ use Rattle.formats.specs.Laid.{laid_none}
 use Rattle.formats.specs.Number.{digits}
 use Rattle.channels.specs.Channel.{width_of}
 use Rattle.stored_numbers.specs.NumberLaws.{part-laid}
-use Rattle.channels.specs.Stored.{value_of, storedOf, fits, stored-above}
+use Rattle.channels.specs.Stored.{value_of, stored_of, fits, stored-above}
 use Rattle.channels.proofs.Numbers.{above-fits}
-use Rattle.descriptions.specs.Description.{encodeAttribute}
+use Rattle.descriptions.specs.Description.{encode_attribute}
 use Rattle.description_writing.proofs.Laying.{attribute-none, attribute-given, attribute-length, fits-given}
 use Rattle.description_writing.proofs.put_attribute.Statement.{statement}
 use Rattle.description_writing.proofs.put_attribute.Tie as tie
@@ -53,8 +53,8 @@ cast-number c = let f = above-fits (start c).args.format _ _ (fitting c) in rw (
 -- its digits are the attribute
 module _ (c : tie.After-struct-told) (signed : Bool) (e : (start c).args.least ≡ value_of (width c) signed 0) where
   stored : nat_abs (to_z w32 (of_z w32 (to_z w32 (of_z w32 (start c).args.attribute.number) -ℤ to_z w32 (of_z w32 (start c).args.least))))
-      ≡ storedOf (width c) signed (start c).args.attribute.number
-  unfolding storedOf
+      ≡ stored_of (width c) signed (start c).args.attribute.number
+  unfolding stored_of
   stored =
       let v = (start c).args.attribute.number in
       ap nat_abs
@@ -63,7 +63,7 @@ module _ (c : tie.After-struct-told) (signed : Bool) (e : (start c).args.least �
       ∙ ap (λ z. v -ℤ z) (sym (start c).requires.1 ∙ e)
       ∙ stored-above (width c) signed v)
 
-  written : encodeAttribute (width c) signed (start c).args.attribute
+  written : encode_attribute (width c) signed (start c).args.attribute
       ≡ digits (width c) (nat_abs (to_z w32 (of_z w32 (to_z w32 (of_z w32 (start c).args.attribute.number) -ℤ to_z w32 (of_z w32 (start c).args.least)))))
   written = attribute-given _ _ _ (given c) ∙ ap (digits _) (sym stored)
 

@@ -5,7 +5,7 @@ use borrow.Author.Rules.{rules}
 use borrow.Author.Tests.{not-true, not-false}
 use Rattle.formats.specs.Laid.{laid_none}
 use Rattle.channels.specs.Channel.{width_of}
-use Rattle.descriptions.specs.Description.{encodeDescriptor, encodeChannel}
+use Rattle.descriptions.specs.Description.{encode_descriptor, encode_channel}
 use Rattle.description_writing.proofs.Laying.{channel-none, channel-included}
 use Rattle.description_writing.proofs.put_channel.Statement.{statement}
 use Rattle.description_writing.proofs.put_channel.Tie as tie
@@ -16,8 +16,8 @@ returns c channel e =
     rw (channel-none (width_of a.format) channel a.d (not-true a.d.included c.if1.true)) (laid_none _ _)
 
 included : (c : tie.Else1) (channel : ℕ)
-    → encodeChannel (width_of c.before.before.before.args.format) channel c.before.before.before.args.d
-    ≡ encodeDescriptor (width_of c.before.before.before.args.format) channel c.before.before.before.args.d
+    → encode_channel (width_of c.before.before.before.args.format) channel c.before.before.before.args.d
+    ≡ encode_descriptor (width_of c.before.before.before.args.format) channel c.before.before.before.args.d
 included c channel = channel-included _ _ _ (not-false c.before.before.before.args.d.included c.if1.false)
 
 put-descriptor-requires : tie.Need-put-descriptor-requires

@@ -10,12 +10,12 @@ use lib.ListN.{length, drop, get_or, length-map}
 use Rattle.formats.specs.Binary.{bit, binary}
 use Rattle.formats.specs.Laid.{Laid, Owed, laid-length, laid_more, room-first, room-rest, owed_all, owed-room, owed-next, owed_none}
 use Rattle.formats.specs.Number.{digits}
-use Rattle.formats.specs.Writes.{encodeEach}
+use Rattle.formats.specs.Writes.{encode_each}
 use Rattle.channels.specs.BitLaws.{SignsLeft, moved_on, signs-none, sign-first}
 use Rattle.channels.specs.Channel.{channels, signed_of, width_of}
 use Rattle.stored_numbers.specs.NumberLaws.{number-laid}
 use Rattle.channels.specs.Descriptors.{absent}
-use Rattle.descriptions.specs.Description.{encodeChannel, encodeDescription, fitsDescriptor, all_fit, every}
+use Rattle.descriptions.specs.Description.{encode_channel, encode_description, fits_descriptor, all_fit, every}
 use Rattle.description_judging.proofs.Judging.{every_holds}
 use Rattle.description_writing.proofs.Laying.{left, left-next, left-none}
 use Rattle.description_writing.proofs.put_description.Statement.{statement}
@@ -24,8 +24,8 @@ use Rattle.description_writing.proofs.put_description.Tie as tie
 abbrev invariant-loop : tie.invariant-loop
 invariant-loop out₀ start format description signs₀ at₀ i₀ out signs at i =
     (i ≤ 16)
-    × T (every (fitsDescriptor (width_of format)) i (drop i description.channels))
-    × Owed out₀ at₀ (encodeEach (encodeChannel (width_of format)) channels description.channels) out at (left (width_of format) description.channels i)
+    × T (every (fits_descriptor (width_of format)) i (drop i description.channels))
+    × Owed out₀ at₀ (encode_each (encode_channel (width_of format)) channels description.channels) out at (left (width_of format) description.channels i)
     × SignsLeft signs i
 
 abbrev decreases-loop : tie.decreases-loop
@@ -49,7 +49,7 @@ module _ (n : tie.After-put-number invariant-loop decreases-loop) where
   start = n.before.before.before.before.before
 
   laid : Laid start.args.out.now start.args.start (digits 2 (binary (map (λ d. d.included) start.args.t3.channels))) n.put-number.last.0 n.put-number.result
-  unfolding encodeDescription
+  unfolding encode_description
   laid = number-laid 2 _ _ _ (room-first _ _ start.pre.1) (rw n.before.inclusion.ensures at n.put-number.ensures)
 
 loop-holds : tie.Need-loop-init invariant-loop decreases-loop
@@ -73,23 +73,23 @@ module _ (c : tie.In-loop invariant-loop decreases-loop) where
   sign : bit 16 c.before.loop.signs ≡ signed_of c.before.loop.i
   sign = sign-first c.before.loop.invariant.3 c.loop-test.true
 
-  fitting : T (fitsDescriptor (width_of (start number).args.format) c.before.loop.i (get_or (start number).args.t3.channels c.before.loop.i absent))
-      × T (every (fitsDescriptor (width_of (start number).args.format)) (c.before.loop.i + 1) (drop (c.before.loop.i + 1) (start number).args.t3.channels))
+  fitting : T (fits_descriptor (width_of (start number).args.format) c.before.loop.i (get_or (start number).args.t3.channels c.before.loop.i absent))
+      × T (every (fits_descriptor (width_of (start number).args.format)) (c.before.loop.i + 1) (drop (c.before.loop.i + 1) (start number).args.t3.channels))
   fitting =
-      every_holds (fitsDescriptor (width_of (start number).args.format)) (start number).args.t3.channels c.before.loop.i (omega (arith, sixteen (start number))) c.before.loop.invariant.1
+      every_holds (fits_descriptor (width_of (start number).args.format)) (start number).args.t3.channels c.before.loop.i (omega (arith, sixteen (start number))) c.before.loop.invariant.1
 
   owed : Owed
       number.put-number.last.0
       number.put-number.result
-      (encodeEach (encodeChannel (width_of (start number).args.format)) channels (start number).args.t3.channels)
+      (encode_each (encode_channel (width_of (start number).args.format)) channels (start number).args.t3.channels)
       c.before.loop.out
       c.before.loop.at
-      (encodeChannel (width_of (start number).args.format) c.before.loop.i (get_or (start number).args.t3.channels c.before.loop.i absent)
+      (encode_channel (width_of (start number).args.format) c.before.loop.i (get_or (start number).args.t3.channels c.before.loop.i absent)
       ++ left (width_of (start number).args.format) (start number).args.t3.channels (c.before.loop.i + 1))
   owed = rw (left-next (width_of (start number).args.format) (start number).args.t3.channels (sixteen (start number)) c.before.loop.i c.loop-test.true) at c.before.loop.invariant.2
 
 put-channel-requires : tie.Need-put-channel-requires invariant-loop decreases-loop
-unfolding encodeDescription
+unfolding encode_description
 put-channel-requires c κs =
     let l = c.before.before.before in
     let n = number l in
@@ -115,7 +115,7 @@ same_length : tie.Need-same-length invariant-loop decreases-loop
 same_length c = let l = c.before in l.loop.invariant.2.kept ∙ laid-length (laid l.before.before.before)
 
 returns : tie.Need-returns invariant-loop decreases-loop
-unfolding encodeDescription
+unfolding encode_description
 returns c =
     let l = c.before in
     let a = (start l.before.before.before).args in

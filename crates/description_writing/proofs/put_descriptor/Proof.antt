@@ -13,7 +13,7 @@ use Rattle.formats.specs.Laid.{Room, Laid, laid-byte, laid-length, room-first}
 use Rattle.channels.specs.Channel.{signed_of, width_of}
 use Rattle.channels.specs.Stored.{offset, value_of}
 use Rattle.channels.specs.declared.Attribute.{Attribute}
-use Rattle.descriptions.specs.Description.{descriptorByte, encodeAttribute, encodeDescriptor}
+use Rattle.descriptions.specs.Description.{descriptor_byte, encode_attribute, encode_descriptor}
 use Rattle.description_writing.proofs.Laying.{FitsEach, fits_each, attribute-ready, attribute-laid}
 use Rattle.description_writing.proofs.put_descriptor.Statement.{statement}
 use Rattle.description_writing.proofs.put_descriptor.Tie as tie
@@ -21,13 +21,13 @@ use Rattle.description_writing.proofs.put_descriptor.Tie as tie
 -- what is to be laid, and how far it goes with each attribute
 module _ (s : tie.Start) where
   abbrev bytes : Bool → Attribute → List ℕ
-  bytes signed a = encodeAttribute (width_of s.args.format) signed a
+  bytes signed a = encode_attribute (width_of s.args.format) signed a
 
   abbrev sign : Bool
   sign = signed_of s.pre.0
 
   abbrev to-scaling : List ℕ
-  to-scaling = descriptorByte s.args.d ∷ encodeAttribute 2 false s.args.d.scaling
+  to-scaling = descriptor_byte s.args.d ∷ encode_attribute 2 false s.args.d.scaling
 
   abbrev to-minimum : List ℕ
   to-minimum = to-scaling ++ bytes sign s.args.d.minimum
@@ -49,7 +49,7 @@ module _ (s : tie.Start) where
   Laying b t end = Laid s.args.out.now s.args.start b t end
 
   room-deviation : Free to-deviation
-  unfolding encodeDescriptor
+  unfolding encode_descriptor
   room-deviation = s.pre.3
 
   room-mean : Free to-mean
@@ -91,7 +91,7 @@ module _ (c : tie.After-put-attribute-arg) where
       ∙ c.before.before.value_of_lem.ensures
       ∙ ap (λ t. value_of (width_of start.args.format) t 0) start.pre.1
 
-  byte-laid : Laying start (descriptorByte start.args.d ∷ []) (set start.args.out.now start.args.start c.before.descriptor-byte.result) (start.args.start + 1)
+  byte-laid : Laying start (descriptor_byte start.args.d ∷ []) (set start.args.out.now start.args.start c.before.descriptor-byte.result) (start.args.start + 1)
   byte-laid = laid-byte start.args.out.now start.args.start c.before.descriptor-byte.ensures
 
 abbrev from-scaling : tie.After-put-attribute → tie.After-put-attribute-arg
@@ -162,7 +162,7 @@ same_length c = laid-length (deviation-laid c.before.before)
 
 -- whichever channel has the sign
 returns : tie.Need-returns
-unfolding encodeDescriptor
+unfolding encode_descriptor
 returns c channel e =
     let p = c.before.before in
     rw (sym e ∙ (start (from-deviation p)).pre.1) (deviation-laid p)

@@ -8,17 +8,17 @@ use borrow.Author.Tests.{leb-true, leb-false, le-leb, lt-leb, not-true, not-fals
 use lib.ListN.{length}
 use Rattle.formats.specs.Lent.{writing}
 use Rattle.channels.specs.Channel.{width_of}
-use Rattle.descriptions.specs.Description.{encodeDescription}
-use Rattle.description_writing.specs.Write.{putRoom}
+use Rattle.descriptions.specs.Description.{encode_description}
+use Rattle.description_writing.specs.Write.{put_room}
 use Rattle.description_writing.specs.declared.Written.TheVariants.{Done}
 use Rattle.description_writing.proofs.put_where_room.Statement.{statement}
 use Rattle.description_writing.proofs.put_where_room.Tie as tie
 
 abbrev needed : tie.Start → ℕ
-needed s = length (encodeDescription (width_of s.args.format) s.args.description)
+needed s = length (encode_description (width_of s.args.format) s.args.description)
 
 returns : tie.Need-returns
-unfolding putRoom
+unfolding put_room
 returns c =
     let s = c.before.before in
     rw (lt-leb (s.args.start + needed s) (length s.args.out.now) (omega arith))
@@ -44,7 +44,7 @@ module _ (c : tie.After-has-room) where
   room e = omega (arith, leb-true (needed start) behind (sym c.has_room.ensures ∙ e))
 
 returns-2 : tie.Need-returns-2
-unfolding putRoom
+unfolding put_room
 returns-2 c = rw (lt-leb _ _ (crowded c.before (not-true _ c.if2.true)))
 
 put-description-requires : tie.Need-put-description-requires
@@ -56,7 +56,7 @@ same_length : tie.Need-same-length
 same_length c = search rules
 
 returns-3 : tie.Need-returns-3
-unfolding putRoom
+unfolding put_room
 returns-3 c =
     let p = c.before.before in
     let e = p.before.before in

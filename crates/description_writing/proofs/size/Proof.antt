@@ -8,7 +8,7 @@ use Rattle.formats.specs.Number.{length_digits}
 use Rattle.channels.specs.Channel.{width_of}
 use Rattle.channels.specs.declared.Format.{Format}
 use Rattle.channels.specs.declared.Format.TheVariants.{Full, Compact}
-use Rattle.descriptions.specs.Description.{encodeDescription}
+use Rattle.descriptions.specs.Description.{encode_description}
 use Rattle.descriptions.specs.SizeLaws.{description-size}
 use Rattle.description_writing.proofs.Laying.{left, left-next, left-none}
 use Rattle.description_writing.proofs.size.Statement.{statement}
@@ -16,7 +16,7 @@ use Rattle.description_writing.proofs.size.Tie as tie
 
 abbrev invariant-loop : tie.invariant-loop
 invariant-loop format description total₀ i₀ total i =
-    (i ≤ 16) × (length (encodeDescription (width_of format) description) ≡ total + length (left (width_of format) description.channels i))
+    (i ≤ 16) × (length (encode_description (width_of format) description) ≡ total + length (left (width_of format) description.channels i))
 
 abbrev decreases-loop : tie.decreases-loop
 decreases-loop format description total₀ i₀ total i = 16 - i
@@ -29,7 +29,7 @@ width_small Full = omega arith
 width_small Compact = omega arith
 
 loop-holds : tie.Need-loop-init invariant-loop decreases-loop
-unfolding encodeDescription left
+unfolding encode_description left
 loop-holds c = (omega arith, simp (length-append, length_digits))
 
 mul-d : tie.Need-overflow-mul-d invariant-loop decreases-loop
@@ -43,7 +43,7 @@ channel-size-requires c κs = search rules
 
 -- this channel is counted
 counted : (c : tie.After-channel-size invariant-loop decreases-loop)
-    → length (encodeDescription (width_of c.before.before.before.before.args.format) c.before.before.before.before.args.t1)
+    → length (encode_description (width_of c.before.before.before.before.args.format) c.before.before.before.before.args.t1)
     ≡ c.before.before.before.loop.total
     + c.channel-size.result
     + length (left (width_of c.before.before.before.before.args.format) c.before.before.before.before.args.t1.channels (c.before.before.before.loop.i + 1))

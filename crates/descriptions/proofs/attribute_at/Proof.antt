@@ -11,7 +11,7 @@ use mir.Syntax.{w32}
 use mir.Val.{SFits, to_z, of_z}
 use mir.ValLaws.{to_z_pos, to_z-of_z}
 use Rattle.formats.specs.Number as reader
-use Rattle.formats.specs.Reader.{ok, readAt}
+use Rattle.formats.specs.Reader.{ok, read_at}
 use Rattle.channels.proofs.Numbers.{value-fits}
 use Rattle.channels.specs.Channel.{width_of}
 use Rattle.stored_numbers.specs.NumberLaws.{part-read}
@@ -77,7 +77,7 @@ module _ (m : tie.After-number-at) where
 
 -- it is the one that stands there
 number : (c : tie.After-number-at) → let a = (start c).args in
-    readAt (reader.number (width_of a.format)) a.s.now a.at ≡ ok c.number_at.result (a.at + width_of a.format)
+    read_at (reader.number (width_of a.format)) a.s.now a.at ≡ ok c.number_at.result (a.at + width_of a.format)
 number c = let v = c.before.before in part-read _ _ _ (there v) v.width.result v.width.ensures.0 c.number_at.ensures
 
 cast-number : tie.Need-overflow-cast-number

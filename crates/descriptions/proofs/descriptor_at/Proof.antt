@@ -10,13 +10,13 @@ use mir.Val.{to_z, of_z}
 use mir.ValLaws.{to_z-of_z}
 use Rattle.channels.specs.Channel.{width_of}
 use Rattle.channels.specs.Stored.{offset, value_of}
-use Rattle.descriptions.specs.Read.{attributesSize, descriptorSize}
+use Rattle.descriptions.specs.Read.{attributes_size, descriptor_size}
 use Rattle.descriptions.proofs.Parts.{attributes-read}
 use Rattle.descriptions.proofs.descriptor_at.Statement.{statement}
 use Rattle.descriptions.proofs.descriptor_at.Tie as tie
 
 shared-slice-read-byte : tie.Need-shared-slice-read-byte
-unfolding descriptorSize
+unfolding descriptor_size
 shared-slice-read-byte c = omega (arith, c.before.before.requires.0)
 
 value-of-requires : tie.Need-value-of-requires
@@ -33,22 +33,22 @@ module _ (c : tie.After-value-of) where
   least : to_z w32 (of_z w32 c.value_of_lem.result) ≡ value_of (width_of start.args.format) start.args.signed 0
   least = to_z-of_z w32 c.value_of_lem.result (search rules) ∙ c.value_of_lem.ensures
 
-  room : start.args.at + descriptorSize (width_of start.args.format) (get_or start.args.s.now start.args.at 0) ≤ length start.args.s.now
+  room : start.args.at + descriptor_size (width_of start.args.format) (get_or start.args.s.now start.args.at 0) ≤ length start.args.s.now
   room = start.pre.0
 
 attribute-at-requires : tie.Need-attribute-at-requires
-unfolding descriptorSize attributesSize value_of offset
+unfolding descriptor_size attributes_size value_of offset
 attribute-at-requires c κs = ((false, refl), omega (arith, room c))
 
 attribute-at-requires-2 : tie.Need-attribute-at-requires-2
-unfolding descriptorSize attributesSize
+unfolding descriptor_size attributes_size
 attribute-at-requires-2 c κs =
     let a = c.before in
     let v = a.before in
     (((start v).args.signed, least v), omega (arith, room v, a.attribute-at.ensures.1))
 
 attribute-at-requires-3 : tie.Need-attribute-at-requires-3
-unfolding descriptorSize attributesSize
+unfolding descriptor_size attributes_size
 attribute-at-requires-3 c κs =
     let b = c.before in
     let a = b.before.before in
@@ -56,7 +56,7 @@ attribute-at-requires-3 c κs =
     (((start v).args.signed, least v), omega (arith, room v, a.attribute-at.ensures.1, b.attribute-at2.ensures.1))
 
 attribute-at-requires-4 : tie.Need-attribute-at-requires-4
-unfolding descriptorSize attributesSize
+unfolding descriptor_size attributes_size
 attribute-at-requires-4 c κs =
     let d = c.before in
     let b = d.before.before in
@@ -65,7 +65,7 @@ attribute-at-requires-4 c κs =
     (((start v).args.signed, least v), omega (arith, room v, a.attribute-at.ensures.1, b.attribute-at2.ensures.1, d.attribute-at3.ensures.1))
 
 attribute-at-requires-5 : tie.Need-attribute-at-requires-5
-unfolding descriptorSize attributesSize value_of offset
+unfolding descriptor_size attributes_size value_of offset
 attribute-at-requires-5 c κs =
     let e = c.before in
     let d = e.before.before in
@@ -75,7 +75,7 @@ attribute-at-requires-5 c κs =
     ((false, refl), omega (arith, room v, a.attribute-at.ensures.1, b.attribute-at2.ensures.1, d.attribute-at3.ensures.1, e.attribute-at4.ensures.1))
 
 returns : tie.Need-returns
-unfolding descriptorSize attributesSize value_of offset
+unfolding descriptor_size attributes_size value_of offset
 returns c channel sign =
     let f = c.before in
     let e = f.before.before in

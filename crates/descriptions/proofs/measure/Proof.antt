@@ -8,13 +8,13 @@ use Prim.Native.Nat.{◌≤◌, ◌-◌}
 use native.Mathlib.Omega.{arith}
 use borrow.Author.Rules.{rules}
 use lib.ListN.{replicate, set}
-use Rattle.formats.specs.Reader.{readAt}
+use Rattle.formats.specs.Reader.{read_at}
 use Rattle.formats.specs.Told.{told-done}
 use Rattle.channels.specs.BitLaws.{Moved, moved_none, moved-first, moved_on, moved_out}
 use Rattle.channels.specs.declared.Descriptor.{Descriptor}
 use Rattle.channels.specs.Descriptors.{absent}
 use Rattle.descriptions.specs.Description.{includes, description}
-use Rattle.descriptions.specs.Read.{described, undescribed, measured, channelsFrom, descriptorSize}
+use Rattle.descriptions.specs.Read.{described, undescribed, measured, channels_from, descriptor_size}
 use Rattle.descriptions.proofs.Measuring.{descriptor-whole, descriptor-flags}
 use Rattle.descriptions.proofs.Reading.{Gone, gone-none, gone-absent, gone-on, gone-failed, gone-all, gone-out, behind-done, behind-failed}
 use Rattle.descriptions.proofs.measure.Statement.{statement}
@@ -35,8 +35,8 @@ module _ (k : tie.After-outcome invariant-loop decreases-loop) where
   abbrev start : tie.Start invariant-loop decreases-loop
   start = inclusion.before.before
 
-  whole : readAt (description start.args.format) start.args.s.now start.args.start
-      ≡ readAt (channelsFrom start.args.format inclusion.inclusion-at.result.bits) start.args.s.now k.outcome.given.0.0
+  whole : read_at (description start.args.format) start.args.s.now start.args.start
+      ≡ read_at (channels_from start.args.format inclusion.inclusion-at.result.bits) start.args.s.now k.outcome.given.0.0
   whole = behind-done _ k.outcome.given.1 (inclusion.inclusion-at.ensures _)
 
 -- a channel that is included
@@ -94,7 +94,7 @@ returns-2 c =
     c.unmeasured2.ensures ∙ ap undescribed (e ∙ ap (described _) (sym (whole l.before.before)))
 
 shared-slice-read-byte : tie.Need-shared-slice-read-byte invariant-loop decreases-loop
-unfolding descriptorSize
+unfolding descriptor_size
 shared-slice-read-byte c =
     let e = c.before.before in
     let d = e.before.before in

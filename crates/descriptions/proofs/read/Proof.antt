@@ -6,12 +6,12 @@ use mathlib.Core.Logic.{⊎_elim}
 use Prim.Native.Nat.{ℕ, ◌≤◌, ◌-◌}
 use native.Mathlib.Omega.{arith}
 use borrow.Author.Rules.{rules}
-use Rattle.formats.specs.Reader.{ok, readAt}
+use Rattle.formats.specs.Reader.{ok, read_at}
 use Rattle.formats.specs.declared.Outcome.TheVariants.{Done}
 use Rattle.channels.specs.BitLaws.{Moved, SignsLeft, moved_none, moved-first, moved_on, moved_out, signs-none, sign-first}
 use Rattle.channels.specs.Channel.{width_of}
 use Rattle.descriptions.specs.Description.{includes, description}
-use Rattle.descriptions.specs.Read.{nothing, described, channelsFrom}
+use Rattle.descriptions.specs.Read.{nothing, described, channels_from}
 use Rattle.descriptions.proofs.Measuring.{Whole, descriptor-whole}
 use Rattle.descriptions.proofs.Reading.{Gone, gone-none, gone-absent, gone-on, gone-failed, gone-all, gone-out, behind-done, behind-failed}
 use Rattle.descriptions.proofs.read.Statement.{statement}
@@ -33,8 +33,8 @@ module _ (k : tie.After-outcome invariant-loop decreases-loop) where
   abbrev start : tie.Start invariant-loop decreases-loop
   start = inclusion.before.before
 
-  whole : readAt (description start.args.format) start.args.s.now start.args.start
-      ≡ readAt (channelsFrom start.args.format inclusion.inclusion-at.result.bits) start.args.s.now k.outcome.given.0.0
+  whole : read_at (description start.args.format) start.args.s.now start.args.start
+      ≡ read_at (channels_from start.args.format inclusion.inclusion-at.result.bits) start.args.s.now k.outcome.given.0.0
   whole = behind-done _ k.outcome.given.1 (inclusion.inclusion-at.ensures _)
 
 -- a channel that is included

@@ -24,7 +24,7 @@ enum-known-scaled : tie.Need-enum-known-scaled
 enum-known-scaled c = search rules
 
 -- what the call answers, divided
-divided : (c : tie.After-calibrate) → laws.divide quotient (calibration.told c.calibrate.result) ≡ calibration.placeReading quotient c.before.args.place c.before.args.scaling
+divided : (c : tie.After-calibrate) → laws.divide quotient (calibration.told c.calibrate.result) ≡ calibration.place_reading quotient c.before.args.place c.before.args.scaling
 divided c = ap (laws.divide quotient) c.calibrate.ensures ∙ laws.divided-placed quotient c.before.args.place c.before.args.scaling
 
 returns : tie.Need-returns

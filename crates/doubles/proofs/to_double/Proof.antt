@@ -3,7 +3,7 @@ use mathlib.Core.Path.{◌≡◌, sym, ap, ◌∙◌}
 use borrow.Author.Rules.{rules}
 use lib.IntN.{ℤ}
 use mir.Facts.{to_z-of_z}
-use Rattle.refusals.specs.Ranges.{firstMisfit}
+use Rattle.refusals.specs.Ranges.{first_misfit}
 use Rattle.calibration.specs.Reading as calibration
 use Rattle.calibration.specs.Reading.{numbers, value}
 use Rattle.calibration.specs.Laws.{passed-in-range}
@@ -18,8 +18,8 @@ enum_told : tie.Need-enum-told
 enum_told c = search rules
 
 -- what the call answers, with raw as it was handed in
-judged : (c : tie.After-judge) → c.judge.result ≡ firstMisfit (numbers c.before.args.raw c.before.args.e c.before.args.f)
-judged c = c.judge.ensures ∙ ap (λ (z : ℤ). firstMisfit (numbers z c.before.args.e c.before.args.f)) (to_z-of_z c.before.ranges.raw)
+judged : (c : tie.After-judge) → c.judge.result ≡ first_misfit (numbers c.before.args.raw c.before.args.e c.before.args.f)
+judged c = c.judge.ensures ∙ ap (λ (z : ℤ). first_misfit (numbers z c.before.args.e c.before.args.f)) (to_z-of_z c.before.ranges.raw)
 
 divide-requires : tie.Need-divide-requires
 divide-requires c κs =
@@ -34,13 +34,13 @@ exactly : (c : tie.After-divide) → Quotient c.before.before.before.before.args
 exactly c = let s = c.before.before.before.before in rw (to_z-of_z s.ranges.raw) at c.divide.ensures
 
 returns : tie.Need-returns
-unfolding calibration.reading calibration.readWhere quotient
+unfolding calibration.reading calibration.read_where quotient
 returns c =
     let b = c.before in
     (rw (sym (judged b.before.before) ∙ b.enum_told.given.1) (ap value (exactly c).divided), exactly c)
 
 returns-2 : tie.Need-returns-2
-unfolding calibration.reading calibration.readWhere
+unfolding calibration.reading calibration.read_where
 returns-2 c = (rw (sym (judged c.before.before.before) ∙ c.before.refusal.given.1), tt)
 
 pub to-double-spec : {M : Type 1} → statement M

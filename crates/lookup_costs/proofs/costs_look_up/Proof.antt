@@ -1,6 +1,6 @@
 -- `lookup_costs::costs_look_up` meets its contract: the lookup's own answer, variant by variant.
 use mathlib.Core.Path.{sym, ap, ◌∙◌}
-use Rattle.lookup_costs.specs.Handed.{handedPointed, handedLookup}
+use Rattle.lookup_costs.specs.Handed.{handed_pointed, handed_lookup}
 use borrow.Author.Rules.{rules}
 use Rattle.lookup_costs.proofs.costs_look_up.Statement.{statement}
 use Rattle.lookup_costs.proofs.costs_look_up.Tie as tie
@@ -21,17 +21,17 @@ cast-t9 : tie.Need-overflow-cast-t9
 cast-t9 c = search rules
 
 returns : tie.Need-returns
-unfolding handedLookup
+unfolding handed_lookup
 returns c =
     let l = c.before.before.look_up in
-    ap (handedPointed l.result.looked) (sym c.enum_told.given.1) ∙ ap handedLookup l.ensures.0
+    ap (handed_pointed l.result.looked) (sym c.enum_told.given.1) ∙ ap handed_lookup l.ensures.0
 
 returns-2 : tie.Need-returns-2
-unfolding handedLookup
+unfolding handed_lookup
 returns-2 c =
     let v = c.before.before in
     let l = v.before.before.look_up in
-    rw c.number.ensures (ap (handedPointed l.result.looked) (sym v.pointed.given.1) ∙ ap handedLookup l.ensures.0)
+    rw c.number.ensures (ap (handed_pointed l.result.looked) (sym v.pointed.given.1) ∙ ap handed_lookup l.ensures.0)
 
 pub costs-look-up-spec : {M : Type 1} → statement M
 costs-look-up-spec =

@@ -2,7 +2,7 @@
 use mathlib.Core.Path.{ap, ◌∙◌}
 use mir.ValLaws.{to_z-of_z}
 use mir.Syntax.{w32}
-use Rattle.lookup_costs.specs.Handed.{handedPoint}
+use Rattle.lookup_costs.specs.Handed.{handed_point}
 use borrow.Author.Rules.{rules}
 use Rattle.lookup_costs.proofs.costs_look_up_point.Statement.{statement}
 use Rattle.lookup_costs.proofs.costs_look_up_point.Tie as tie
@@ -20,9 +20,9 @@ told-requires : tie.Need-told-requires
 told-requires c κs = search rules
 
 returns : tie.Need-returns
-unfolding handedPoint
+unfolding handed_point
 returns c =
-    rw (to_z-of_z w32 c.told.result (search rules)) (c.told.ensures ∙ ap (handedPoint _) c.before.before.point.ensures)
+    rw (to_z-of_z w32 c.told.result (search rules)) (c.told.ensures ∙ ap (handed_point _) c.before.before.point.ensures)
 
 pub costs-look-up-point-spec : {M : Type 1} → statement M
 costs-look-up-point-spec =

@@ -4,7 +4,7 @@ use Prim.Native.Nat.{◌+◌}
 use native.Mathlib.Omega.{arith}
 use borrow.Author.Rules.{rules}
 use lib.ListN.{length}
-use Rattle.formats.specs.Reader.{readAt}
+use Rattle.formats.specs.Reader.{read_at}
 use Rattle.formats.specs.Sight.{seen}
 use Rattle.formats.specs.SightLaws.{seen-within}
 use Rattle.formats.specs.Told.{told, once-told}
@@ -21,7 +21,7 @@ enum-known-outcome : tie.Need-enum-known-outcome
 enum-known-outcome c = search rules
 
 -- how the point is judged is how reading it ends
-judged : (c : tie.After-judge) → let a = c.before.before.args in c.judge.result ≡ told (readAt (point 2 a.stored) a.bytes.now a.start)
+judged : (c : tie.After-judge) → let a = c.before.before.args in c.judge.result ≡ told (read_at (point 2 a.stored) a.bytes.now a.start)
 judged c = let a = c.before.before.args in c.judge.ensures ∙ once-told (point 2 a.stored) a.bytes.now a.start
 
 -- where it failed
@@ -29,7 +29,7 @@ module _ (c : tie.After-known-told) where
   abbrev start : tie.Start
   start = c.before.before.before.before.before
 
-  failing : told (readAt (point 2 start.args.stored) start.args.bytes.now start.args.start) ≡ Failed c.before.outcome.given.0.0
+  failing : told (read_at (point 2 start.args.stored) start.args.bytes.now start.args.start) ≡ Failed c.before.outcome.given.0.0
   failing = sym (judged c.before.before.before) ∙ c.before.outcome.given.1
 
 looked-from-requires : tie.Need-looked-from-requires

@@ -4,11 +4,11 @@ use Prim.Native.Nat.{◌+◌, ◌*◌, ◌<◌}
 use native.Mathlib.Omega.{arith}
 use borrow.Author.Rules.{rules}
 use Rattle.formats.specs.Bytes.{Bytes}
-use Rattle.formats.specs.Reader.{readAt}
+use Rattle.formats.specs.Reader.{read_at}
 use Rattle.formats.specs.Told.{told}
 use Rattle.formats.specs.declared.Outcome.TheVariants.{Done, Failed}
 use Rattle.record_fronts.specs.Front as meant
-use Rattle.record_fronts.specs.Fronted.{frontIn}
+use Rattle.record_fronts.specs.Fronted.{front_in}
 use Rattle.lookups.specs.LookupLaws.{failed-seen}
 use Rattle.lookups.proofs.Looking.{start_fits, promised, answers-failed, points-within, answers-none, answers-point}
 use Rattle.lookups.proofs.look_up.Statement.{statement}
@@ -25,17 +25,17 @@ module _ (c : tie.After-front-at) where
   abbrev start : tie.Start
   start = c.before.before
 
-  outcome : c.Front-at.result.outcome ≡ told (readAt meant.front start.args.bytes.now 0)
+  outcome : c.Front-at.result.outcome ≡ told (read_at meant.front start.args.bytes.now 0)
   outcome = ap (λ h. h.outcome) c.Front-at.ensures
 
   bytes : Bytes start.args.bytes.now
   bytes i = omega (arith, c.before.shared-slice-known.given i)
 
-  front : c.Front-at.result.front ≡ frontIn (readAt meant.front start.args.bytes.now 0)
+  front : c.Front-at.result.front ≡ front_in (read_at meant.front start.args.bytes.now 0)
   front = ap (λ h. h.front) c.Front-at.ensures
 
 -- where it failed
-failing : (c : tie.After-known-told) → told (readAt meant.front (start c.before.before.before).args.bytes.now 0) ≡ Failed c.before.outcome.given.0.0
+failing : (c : tie.After-known-told) → told (read_at meant.front (start c.before.before.before).args.bytes.now 0) ≡ Failed c.before.outcome.given.0.0
 failing c = sym (outcome c.before.before.before) ∙ c.before.outcome.given.1
 
 looked-from-requires : tie.Need-looked-from-requires
@@ -60,7 +60,7 @@ module _ (c : tie.After-struct-known) where
   abbrev headed : tie.After-front-at
   headed = c.before.before.before.before
 
-  ended : told (readAt meant.front (start headed).args.bytes.now 0) ≡ Done c.before.before.enum_told.given.0.0
+  ended : told (read_at meant.front (start headed).args.bytes.now 0) ≡ Done c.before.before.enum_told.given.0.0
   ended = sym (outcome headed) ∙ c.before.before.enum_told.given.1
 
 returns-2 : tie.Need-returns-2

@@ -4,9 +4,9 @@ use mathlib.Core.Logic.{⊎_elim}
 use Prim.Native.Nat.{◌+◌, ◌*◌, ◌<◌}
 use native.Mathlib.Omega.{arith}
 use borrow.Author.Rules.{rules}
-use Rattle.formats.specs.Reader.{readAt}
+use Rattle.formats.specs.Reader.{read_at}
 use Rattle.record_fronts.specs.Front as meant
-use Rattle.record_fronts.specs.Fronted.{frontIn}
+use Rattle.record_fronts.specs.Fronted.{front_in}
 use Rattle.lookups.proofs.Looking.{start_fits, Shown, shown-there, shown-none, counted-within}
 use Rattle.lookups.proofs.point.Statement.{statement}
 use Rattle.lookups.proofs.point.Tie as tie
@@ -21,7 +21,7 @@ width-requires : tie.Need-width-requires
 width-requires c κs = search rules
 
 -- the front is that of the bytes
-front : (c : tie.After-front-at) → c.Front-at.result.front ≡ frontIn (readAt meant.front c.before.before.args.bytes.now 0)
+front : (c : tie.After-front-at) → c.Front-at.result.front ≡ front_in (read_at meant.front c.before.before.args.bytes.now 0)
 front c = ap (λ h. h.front) c.Front-at.ensures
 
 -- the point's place

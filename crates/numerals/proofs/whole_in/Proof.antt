@@ -11,7 +11,7 @@ use lib.IntN.{ℤ, pos, ◌-ℤ◌}
 use mir.Syntax.{w64}
 use mir.Val.{SFits, Fits, to_z, of_z}
 use mir.ValLaws.{to_z_pos, to_z-of_z}
-use Rattle.words.specs.Said.{beginsWith}
+use Rattle.words.specs.Said.{begins_with}
 use Rattle.numerals.specs.Decimal.{continued, whole}
 use borrow.Author.Rules.{rules}
 use Rattle.numerals.proofs.whole_in.Statement.{statement}
@@ -22,13 +22,13 @@ turned : (n : ℕ) → n < 1000000000000000000 → SFits w64 (pos 0 -ℤ pos n)
 turned zero h = record { sfits = omega arith }
 turned (suc n) h = rw (lt-ltb 0 (suc n) (omega arith)) (record { sfits = omega (arith, h) })
 
-negative : (word rest : List ℕ) (n : ℕ) (says : Bool) → says ≡ true → says ≡ beginsWith word 45 → rest ≡ take (length word - 1) (drop 1 word) → n < 1000000000000000000 → n ≡ continued 0 rest → to_z w64 (of_z w64 (pos 0 -ℤ to_z w64 n)) ≡ whole word
+negative : (word rest : List ℕ) (n : ℕ) (says : Bool) → says ≡ true → says ≡ begins_with word 45 → rest ≡ take (length word - 1) (drop 1 word) → n < 1000000000000000000 → n ≡ continued 0 rest → to_z w64 (of_z w64 (pos 0 -ℤ to_z w64 n)) ≡ whole word
 unfolding whole
 negative word rest n says p q e h d =
     let t : rest ≡ drop 1 word = e ∙ take_all (length word - 1) (drop 1 word) (simp length-drop (omega arith)) in
     rw (to_z_pos w64 n (omega arith), to_z-of_z w64 (pos 0 -ℤ pos n) (turned n h), sym q ∙ p) (ap (λ (m : ℕ). pos 0 -ℤ pos m) (d ∙ ap (continued 0) t))
 
-plain : (word : List ℕ) (n : ℕ) (says : Bool) → says ≡ false → says ≡ beginsWith word 45 → n < 1000000000000000000 → n ≡ continued 0 word → to_z w64 n ≡ whole word
+plain : (word : List ℕ) (n : ℕ) (says : Bool) → says ≡ false → says ≡ begins_with word 45 → n < 1000000000000000000 → n ≡ continued 0 word → to_z w64 n ≡ whole word
 unfolding whole
 plain word n says p q h d = rw (to_z_pos w64 n (omega arith), sym q ∙ p) (ap pos d)
 

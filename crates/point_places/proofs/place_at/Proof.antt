@@ -2,7 +2,7 @@
 use mathlib.Core.Path.{sym, ap, ◌∙◌}
 use mir.Syntax.{w32}
 use mir.ValLaws.{to_z-of_z}
-use Rattle.point_places.specs.Parts.{placeRead}
+use Rattle.point_places.specs.Parts.{place_read}
 use Rattle.point_places.proofs.Setting.{place-unstored, place-stored}
 use borrow.Author.Rules.{rules}
 use Rattle.point_places.proofs.place_at.Statement.{statement}
@@ -29,12 +29,12 @@ returns-2 c =
     sym (place-stored _ _ _ _ _ _ m.before.if1.true (sym m.sample-at.ensures ∙ c.before.failure.given.1))
 
 returns-3 : tie.Need-returns-3
-unfolding placeRead
-returns-3 c = sym (ap placeRead (place-unstored _ _ _ _ _ _ c.before.if1.false) ∙ rw c.if2.true)
+unfolding place_read
+returns-3 c = sym (ap place_read (place-unstored _ _ _ _ _ _ c.before.if1.false) ∙ rw c.if2.true)
 
 returns-4 : tie.Need-returns-4
-unfolding placeRead
-returns-4 c = sym (ap placeRead (place-unstored _ _ _ _ _ _ c.before.if1.false) ∙ rw c.if2.false)
+unfolding place_read
+returns-4 c = sym (ap place_read (place-unstored _ _ _ _ _ _ c.before.if1.false) ∙ rw c.if2.false)
 
 pub place-at-spec : {M : Type 1} → statement M
 place-at-spec =

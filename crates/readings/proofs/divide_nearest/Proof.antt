@@ -11,7 +11,7 @@ use lib.Signed.{quot_z, rem_z, lt_z, le_z, ◌<ℤ◌}
 use mir.Syntax.{w64}
 use mir.Val.{SFits, of_z}
 use mir.Facts.{to_z-of_z}
-use Rattle.readings.specs.Thousandths.{halfUp, nearest}
+use Rattle.readings.specs.Thousandths.{half_up, nearest}
 use Rattle.calibration.proofs.Tested.{read}
 use Rattle.readings.proofs.Held.{minus, pos-fits, minus-fits, fits-as, read_as}
 use Rattle.readings.proofs.divide_nearest.Statement.{statement}
@@ -24,7 +24,7 @@ module _ (N D : ℕ) (some : 0 < D) where
   whole = let e = div-add-mod' N D in rw (mul_left_comm (N / D) 2 D) (omega (arith, e))
 
   -- half of D or more remains: one more, for which there is room
-  goes-up : D - N % D ≤ N % D → (halfUp N D ≡ N / D + 1) × (N / D + 1 ≤ N)
+  goes-up : D - N % D ≤ N % D → (half_up N D ≡ N / D + 1) × (N / D + 1 ≤ N)
   goes-up k =
       let r = mod-lt N some in
       let e = whole in
@@ -33,7 +33,7 @@ module _ (N D : ℕ) (some : 0 < D) where
       let u : 2 * N + D < (N / D + 1 + 1) * (2 * D) = rw (add-mul (N / D + 1) 1 (2 * D), add-mul (N / D) 1 (2 * D)) (omega arith) in
       (div-eq_of_lt-le (2 * D) l u, omega (arith, div-add-mod' N D))
 
-  stays : N % D < D - N % D → halfUp N D ≡ N / D
+  stays : N % D < D - N % D → half_up N D ≡ N / D
   stays k =
       let e = whole in
       let u : 2 * N + D < (N / D + 1) * (2 * D) = rw (add-mul (N / D) 1 (2 * D)) (omega arith) in
@@ -50,13 +50,13 @@ record Rounds (x y q u r : ℤ) : Type 0 where
   stay : le_z (read x) (read y) ≡ false → read q ≡ r
 
 module _ (sign : ℕ → ℤ) (N D : ℕ) (some : 0 < D) (df : D < 2 ^ 63) (room : (m : ℕ) → m ≤ N → SFits w64 (sign m)) where
-  rounds : {x y q u r : ℤ} → x ≡ pos (D - N % D) → y ≡ pos (N % D) → q ≡ sign (N / D) → u ≡ sign (N / D + 1) → r ≡ sign (halfUp N D) → Rounds x y q u r
+  rounds : {x y q u r : ℤ} → x ≡ pos (D - N % D) → y ≡ pos (N % D) → q ≡ sign (N / D) → u ≡ sign (N / D + 1) → r ≡ sign (half_up N D) → Rounds x y q u r
   rounds {x} {y} {q} {u} {r} ex ey eq eu er =
       let l = mod-lt N some in
       let xf = pos-fits (D - N % D) (omega arith) in
       let yf = pos-fits (N % D) (omega arith) in
       let test : (t : Bool) → le_z (read x) (read y) ≡ t → leb (D - N % D) (N % D) ≡ t = λ t k. sym (cc (read_as ex xf, read_as ey yf)) ∙ k in
-      let more : le_z (read x) (read y) ≡ true → (halfUp N D ≡ N / D + 1) × (N / D + 1 ≤ N) = λ k. goes-up N D some (leb-true _ _ (test true k)) in
+      let more : le_z (read x) (read y) ≡ true → (half_up N D ≡ N / D + 1) × (N / D + 1 ≤ N) = λ k. goes-up N D some (leb-true _ _ (test true k)) in
       record {
         x_fits = fits-as ex xf;
         y-fits = fits-as ey yf;

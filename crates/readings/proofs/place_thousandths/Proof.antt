@@ -24,7 +24,7 @@ enum-known-scaled : tie.Need-enum-known-scaled
 enum-known-scaled c = search rules
 
 -- what the call answers, divided
-divided : (c : tie.After-calibrate) → laws.divide thousandths (calibration.told c.calibrate.result) ≡ calibration.placeReading thousandths c.before.args.place c.before.args.scaling
+divided : (c : tie.After-calibrate) → laws.divide thousandths (calibration.told c.calibrate.result) ≡ calibration.place_reading thousandths c.before.args.place c.before.args.scaling
 divided c = ap (laws.divide thousandths) c.calibrate.ensures ∙ laws.divided-placed thousandths c.before.args.place c.before.args.scaling
 
 returns : tie.Need-returns

@@ -6,7 +6,7 @@ use native.Mathlib.Omega.{arith}
 use lib.ListN.{length}
 use Rattle.channels.specs.Channel.{width_of}
 use Rattle.channels.specs.declared.Format.TheVariants.{Full}
-use Rattle.points.specs.Points.{sampleSize, width}
+use Rattle.points.specs.Points.{sample_size, width}
 use Rattle.orders.specs.Orders.{size, step, stride}
 use Rattle.orders.specs.OrderLaws.{step-within}
 use Rattle.orders.specs.Parts.{AllAt}
@@ -71,7 +71,7 @@ module _ (c : tie.Then1 invariant-loop decreases-loop) where
   abbrev k : ℕ
   k = size (start turn).args.t3
 
-  there : AllAt (λ i. i + sampleSize 2 turn.loop.channel ≤ length (start turn).args.bytes.now) (width 2 (start turn).args.t3) (start turn).args.count turn.loop.at
+  there : AllAt (λ i. i + sample_size 2 turn.loop.channel ≤ length (start turn).args.bytes.now) (width 2 (start turn).args.t3) (start turn).args.count turn.loop.at
   there = bytes-there _ _ _ _ _ _ _ _ _ _ turn.loop.inv.1 within c.if1.true (start turn).args.order (step_is turn) (stride-is turn) (start turn).pre.0
 
   free : AllAt (λ i. i < length turn.loop.values) turn.before.before.step.result (start turn).args.count turn.loop.from
@@ -92,10 +92,10 @@ sample-size-requires : tie.Need-sample-size-requires invariant-loop decreases-lo
 sample-size-requires c κs = search rules
 
 -- how many bytes its number has
-size_of : {r : ℕ} (channel : ℕ) → (r ≡ sampleSize (width_of Full) channel) × (r ≤ 2) → r ≡ sampleSize 2 channel
+size_of : {r : ℕ} (channel : ℕ) → (r ≡ sample_size (width_of Full) channel) × (r ≤ 2) → r ≡ sample_size 2 channel
 size_of channel h = h.0
 
-size_is : (c : tie.After-sample-size invariant-loop decreases-loop) → c.sample-size.result ≡ sampleSize 2 (turn c.before.before.before.before).loop.channel
+size_is : (c : tie.After-sample-size invariant-loop decreases-loop) → c.sample-size.result ≡ sample_size 2 (turn c.before.before.before.before).loop.channel
 size_is c = size_of (turn c.before.before.before.before).loop.channel c.sample-size.ensures
 
 add_at : tie.Need-overflow-add-at invariant-loop decreases-loop
@@ -123,7 +123,7 @@ loop-again c =
     let t = c.before.before in
     ⊎_elim
     (λ w.
-    let z : w.4.result ≡ sampleSize 2 t.loop.channel = size_of t.loop.channel w.4.ensures in
+    let z : w.4.result ≡ sample_size 2 t.loop.channel = size_of t.loop.channel w.4.ensures in
     rw (w.5, w.6, w.7) (
       omega arith,
       rw z

@@ -8,7 +8,7 @@ use mir.Val.{to_z, of_z}
 use mir.ValLaws.{to_z-of_z}
 use lib.IntN.{ℤ}
 use lib.ListN.{length, set}
-use Rattle.points.specs.Points.{sampleSize}
+use Rattle.points.specs.Points.{sample_size}
 use Rattle.record_columns.specs.Parts.{NumberAt, ChannelFilled}
 use Rattle.record_columns.proofs.Filling.{none_filled, next-filled}
 use borrow.Author.Rules.{rules}
@@ -40,7 +40,7 @@ module _ (c : tie.In-loop invariant-loop decreases-loop) where
   more : turn.loop.i < start.args.count
   more = omega arith
 
-  bytes : turn.loop.at + sampleSize 2 start.args.channel ≤ length start.args.bytes.now
+  bytes : turn.loop.at + sample_size 2 start.args.channel ≤ length start.args.bytes.now
   bytes = omega (arith, turn.loop.inv.1, start.pre.3 turn.loop.i more)
 
   place : turn.loop.index < length start.args.values.now

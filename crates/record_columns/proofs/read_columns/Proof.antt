@@ -7,11 +7,11 @@ use native.Mathlib.Omega.{arith}
 use borrow.Author.Tests.{not-true, not-false, eqb-true}
 use lib.Dec.{eqb}
 use lib.ListN.{length}
-use Rattle.formats.specs.Reader.{readAt}
+use Rattle.formats.specs.Reader.{read_at}
 use Rattle.orders.specs.Orders.{size}
 use Rattle.record_fronts.specs.Front as meant
-use Rattle.record_fronts.specs.Fronted.{frontIn}
-use Rattle.record_layouts.specs.Layout.{layoutBehind, layoutAt}
+use Rattle.record_fronts.specs.Fronted.{front_in}
+use Rattle.record_layouts.specs.Layout.{layout_behind, layout_at}
 use Rattle.record_columns.proofs.Lying.{no_record, left_over, points-within, other-amount, columns-filled}
 use borrow.Author.Rules.{rules}
 use Rattle.record_columns.proofs.read_columns.Statement.{statement}
@@ -37,12 +37,12 @@ module _ (b : tie.After-layout-behind) where
   abbrev start : tie.Start
   start = b.before.before.before.before
 
-  front : b.before.before.Front-at.result.front ≡ frontIn (readAt meant.front start.args.bytes.now 0)
+  front : b.before.before.Front-at.result.front ≡ front_in (read_at meant.front start.args.bytes.now 0)
   front = ap (λ h. h.front) b.before.before.Front-at.ensures
 
-  laid : b.layout-behind.result ≡ layoutAt start.args.bytes.now 0
-  unfolding layoutAt
-  laid = b.layout-behind.ensures ∙ ap (layoutBehind _) b.before.before.Front-at.ensures
+  laid : b.layout-behind.result ≡ layout_at start.args.bytes.now 0
+  unfolding layout_at
+  laid = b.layout-behind.ensures ∙ ap (layout_behind _) b.before.before.Front-at.ensures
 
 returns : tie.Need-returns
 returns c = left_over _ _ (laid c.before.before.before.before) _ c.before.before.outcome2.given.1 c.if1.true

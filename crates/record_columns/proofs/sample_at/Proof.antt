@@ -6,7 +6,7 @@ use mir.Syntax.{w32}
 use mir.ValLaws.{to_z-of_z}
 use lib.ListN.{length}
 use Rattle.formats.specs.Number as reader
-use Rattle.formats.specs.Reader.{ok, readAt}
+use Rattle.formats.specs.Reader.{ok, read_at}
 use Rattle.stored_numbers.specs.NumberLaws.{part-read}
 use Rattle.points.specs.SampleLaws.{switch-size, wide-size, wide_ok}
 use Rattle.record_columns.proofs.Filling.{number_is, state-read}
@@ -54,7 +54,7 @@ number-at-requires : tie.Need-number-at-requires
 number-at-requires c κs = search rules
 
 -- the number that stands there
-number : (n : tie.After-number-at) → let a = (start n.before.before).args in readAt (reader.number 2) a.bytes.now a.at ≡ ok n.number_at.result (a.at + 2)
+number : (n : tie.After-number-at) → let a = (start n.before.before).args in read_at (reader.number 2) a.bytes.now a.at ≡ ok n.number_at.result (a.at + 2)
 number n = let z = n.before.before in part-read 2 _ _ (room z) z.width.result (two z) n.number_at.ensures
 
 is-signed-requires : tie.Need-is-signed-requires

@@ -1,6 +1,6 @@
 -- `record_layouts::layout_behind` meets its contract: each part is looked for where the one before it ended well.
 use mathlib.Core.Path.{sym, ap, ◌∙◌}
-use Rattle.record_layouts.specs.Layout.{no_layout, behind, layoutBehind}
+use Rattle.record_layouts.specs.Layout.{no_layout, behind, layout_behind}
 use borrow.Author.Rules.{rules}
 use Rattle.record_layouts.proofs.layout_behind.Statement.{statement}
 use Rattle.record_layouts.proofs.layout_behind.Tie as tie
@@ -15,7 +15,7 @@ no-layout-requires : tie.Need-no-layout-requires
 no-layout-requires c κs = search rules
 
 returns : tie.Need-returns
-unfolding layoutBehind behind
+unfolding layout_behind behind
 returns c = c.no-layout.ensures ∙ ap no_layout c.before.enum_told.given.1 ∙ sym (rw c.before.enum_told.given.1)
 
 cast-judge : tie.Need-overflow-cast-judge
@@ -34,7 +34,7 @@ no-layout-requires-2 : tie.Need-no-layout-requires-2
 no-layout-requires-2 c κs = search rules
 
 returns-2 : tie.Need-returns-2
-unfolding layoutBehind behind
+unfolding layout_behind behind
 returns-2 c =
     let e = c.before in
     let j = e.before.before in
@@ -54,7 +54,7 @@ no-layout-requires-3 : tie.Need-no-layout-requires-3
 no-layout-requires-3 c κs = search rules
 
 returns-3 : tie.Need-returns-3
-unfolding layoutBehind behind
+unfolding layout_behind behind
 returns-3 c =
     let e = c.before in
     let x = e.before.before in
@@ -66,7 +66,7 @@ returns-3 c =
     ∙ sym (rw (h.headed.given.1, sym j.judge.ensures ∙ p.passed.given.1, sym x.extension-end.ensures ∙ e.enum-told4.given.1))
 
 returns-4 : tie.Need-returns-4
-unfolding layoutBehind behind
+unfolding layout_behind behind
 returns-4 c =
     let x = c.before.before in
     let p = x.before.before in

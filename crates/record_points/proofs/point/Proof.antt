@@ -4,10 +4,10 @@ use mathlib.Core.Logic.{⊎_elim}
 use Prim.Native.Nat.{◌+◌, ◌-◌, ◌*◌, ◌/◌, ◌≤◌}
 use native.Mathlib.Omega.{arith}
 use lib.ListN.{length}
-use Rattle.formats.specs.Reader.{readAt}
+use Rattle.formats.specs.Reader.{read_at}
 use Rattle.record_fronts.specs.Front as meant
-use Rattle.record_fronts.specs.Fronted.{frontIn}
-use Rattle.record_layouts.specs.Layout.{layoutBehind, layoutAt}
+use Rattle.record_fronts.specs.Fronted.{front_in}
+use Rattle.record_layouts.specs.Layout.{layout_behind, layout_at}
 use Rattle.record_points.proofs.Pointing.{Shown, shown-there, shown-none, points-start, point-within}
 use borrow.Author.Rules.{rules}
 use Rattle.record_points.proofs.point.Statement.{statement}
@@ -27,12 +27,12 @@ module _ (b : tie.After-layout-behind) where
   abbrev start : tie.Start
   start = b.before.before.before.before
 
-  front : b.before.before.Front-at.result.front ≡ frontIn (readAt meant.front start.args.bytes.now 0)
+  front : b.before.before.Front-at.result.front ≡ front_in (read_at meant.front start.args.bytes.now 0)
   front = ap (λ h. h.front) b.before.before.Front-at.ensures
 
-  laid : b.layout-behind.result ≡ layoutAt start.args.bytes.now 0
-  unfolding layoutAt
-  laid = b.layout-behind.ensures ∙ ap (layoutBehind _) b.before.before.Front-at.ensures
+  laid : b.layout-behind.result ≡ layout_at start.args.bytes.now 0
+  unfolding layout_at
+  laid = b.layout-behind.ensures ∙ ap (layout_behind _) b.before.before.Front-at.ensures
 
 -- a point of the record lies in the bytes, its share behind the one before
 module _ (c : tie.Then1) where

@@ -1,15 +1,15 @@
 -- `record_reading::judge_behind` meets its contract: the description is read once; what lies behind it is found by the flags that come with it.
 use mathlib.Core.Path.{◌≡◌, sym, ap, ◌∙◌}
 use native.Mathlib.Omega.{arith}
-use Rattle.formats.specs.Reader.{readAt}
+use Rattle.formats.specs.Reader.{read_at}
 use Rattle.formats.specs.Told.{told}
 use Rattle.formats.specs.declared.Outcome.TheVariants.{Done}
-use Rattle.records.specs.Record.{fullRecord}
+use Rattle.records.specs.Record.{full_record}
 use Rattle.identifications.specs.Identification.{identification}
 use Rattle.record_fronts.specs.Front.{channelled}
-use Rattle.record_fronts.specs.Fronted.{fronted, frontBehind}
-use Rattle.record_layouts.specs.Layout.{layoutBehind, layoutAt}
-use Rattle.record_reading.specs.Verdict.{verdictFrom}
+use Rattle.record_fronts.specs.Fronted.{fronted, front_behind}
+use Rattle.record_layouts.specs.Layout.{layout_behind, layout_at}
+use Rattle.record_reading.specs.Verdict.{verdict_from}
 use Rattle.descriptions.specs.Read.{measured, undescribed}
 use Rattle.record_fronts.specs.FrontLaws.{front-done, channelled-is}
 use Rattle.record_reading.proofs.Verdicts.{judged-record, judged-refused}
@@ -24,12 +24,12 @@ front-behind-requires : tie.Need-front-behind-requires
 front-behind-requires c κs = search rules
 
 -- the front behind the identifier and the version
-heading : (c : tie.After-front-behind) → let a = c.before.before.before.before.before.before.args in c.front-behind.result ≡ fronted (readAt channelled a.bytes.now a.at)
+heading : (c : tie.After-front-behind) → let a = c.before.before.before.before.before.before.args in c.front-behind.result ≡ fronted (read_at channelled a.bytes.now a.at)
 unfolding measured
 heading c =
     let a = c.before.before.before.before.before.before.args in
     c.front-behind.ensures
-    ∙ ap (λ d. frontBehind a.bytes.now (undescribed d)) c.before.before.before.before.read.ensures
+    ∙ ap (λ d. front_behind a.bytes.now (undescribed d)) c.before.before.before.before.read.ensures
     ∙ channelled-is a.bytes.now a.at
 
 layout-behind-requires : tie.Need-layout-behind-requires
@@ -46,11 +46,11 @@ unjudged-requires c κs = search rules
 
 -- and the verdict on the record
 verdict : (c : tie.After-verdict-on) → let a = c.before.before.before.before.before.before.before.before.args in
-    Done a.at ≡ told (readAt identification a.bytes.now 0) → c.verdict-on.result ≡ verdictFrom 0 (readAt fullRecord a.bytes.now 0)
-unfolding layoutAt
+    Done a.at ≡ told (read_at identification a.bytes.now 0) → c.verdict-on.result ≡ verdict_from 0 (read_at full_record a.bytes.now 0)
+unfolding layout_at
 verdict c place =
     let l = c.before in
-    c.verdict-on.ensures _ (omega arith) (l.layout-behind.ensures ∙ ap (layoutBehind _) (heading l.before ∙ ap fronted (sym (front-done _ 0 (sym place)))))
+    c.verdict-on.ensures _ (omega arith) (l.layout-behind.ensures ∙ ap (layout_behind _) (heading l.before ∙ ap fronted (sym (front-done _ 0 (sym place)))))
 
 returns : tie.Need-returns
 returns c place =

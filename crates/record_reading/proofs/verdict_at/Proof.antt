@@ -1,16 +1,16 @@
 -- `record_reading::verdict_at` meets its contract: a start past the end is short, and else the layout decides.
 use mathlib.Core.Path.{sym, ap}
 use native.Mathlib.Omega.{arith}
-use Rattle.refusals.specs.Table.{refusalOf}
-use Rattle.record_reading.specs.Verdict.{verdictFrom}
+use Rattle.refusals.specs.Table.{refusal_of}
+use Rattle.record_reading.specs.Verdict.{verdict_from}
 use Rattle.record_reading.proofs.Verdicts.{record-past, record-from}
 use borrow.Author.Rules.{rules}
 use Rattle.record_reading.proofs.verdict_at.Statement.{statement}
 use Rattle.record_reading.proofs.verdict_at.Tie as tie
 
 returns : tie.Need-returns
-unfolding verdictFrom refusalOf
-returns c = sym (ap (verdictFrom _) (record-past _ _ (omega arith)))
+unfolding verdict_from refusal_of
+returns c = sym (ap (verdict_from _) (record-past _ _ (omega arith)))
 
 layout-at-requires : tie.Need-layout-at-requires
 layout-at-requires c κs = search rules

@@ -2,7 +2,7 @@
 use mathlib.Core.Path.{◌≡◌, sym, ◌∙◌}
 use Prim.Native.Nat.{◌<◌}
 use native.Mathlib.Omega.{arith}
-use Rattle.values.specs.Values.{judgementOf}
+use Rattle.values.specs.Values.{judgement_of}
 use Rattle.record_writing.specs.WriteLaws.{at_count, at-values, at-extended, at_last}
 use borrow.Author.Rules.{rules}
 use Rattle.record_writing.proofs.judge_values.Statement.{statement}
@@ -22,7 +22,7 @@ module _ (c : tie.After-judge) where
   counted : start.args.count < 16777216
   counted = omega (arith, c.before.if1.false)
 
-  judged : judgementOf 2 start.args.stored start.args.order start.args.count start.args.values.now ≡ c.judge.result
+  judged : judgement_of 2 start.args.stored start.args.order start.args.count start.args.values.now ≡ c.judge.result
   judged = sym c.judge.ensures
 
 enum_told : tie.Need-enum-told

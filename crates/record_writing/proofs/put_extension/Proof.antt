@@ -9,7 +9,7 @@ use borrow.Author.Tests.{not-true, not-false}
 use Rattle.formats.specs.Laid.{Room, laid_none, laid_more, room-first, room-rest, within-laid}
 use Rattle.formats.specs.Number.{digits}
 use Rattle.stored_numbers.specs.NumberLaws.{number-laid}
-use Rattle.records.specs.Record.{encodeExtended}
+use Rattle.records.specs.Record.{encode_extended}
 use Rattle.record_writing.proofs.Laying.{wanted_room, wanted-laid}
 use borrow.Author.Rules.{rules}
 use Rattle.record_writing.proofs.put_extension.Statement.{statement}
@@ -30,7 +30,7 @@ module _ (c : tie.Else1) where
   room = wanted_room start.args.extended.now start.args.wanted wanted start.pre.1
 
 returns : tie.Need-returns
-unfolding encodeExtended
+unfolding encode_extended
 returns c = let s = c.before.before.before in rw (not-true s.args.wanted c.if1.true) (laid_none _ _)
 
 cast-put-number : tie.Need-overflow-cast-put-number

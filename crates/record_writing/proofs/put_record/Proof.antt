@@ -4,11 +4,11 @@ use mathlib.Core.List.{List, ◌++◌, flat_map}
 use mathlib.Core.Option.{some, none}
 use Prim.Native.Nat.{ℕ}
 use Rattle.formats.specs.Laid.{Room, Laid, laid_more, room-first, room-rest}
-use Rattle.points.specs.Points.{encodePoint}
+use Rattle.points.specs.Points.{encode_point}
 use Rattle.orders.specs.Orders.{size, points_of}
 use Rattle.values.specs.ValueLaws.{put-laid}
-use Rattle.records.specs.Record.{encodeExtended}
-use Rattle.record_writing.specs.Parts.{frontBytes, recordBytes}
+use Rattle.records.specs.Record.{encode_extended}
+use Rattle.record_writing.specs.Parts.{front_bytes, record_bytes}
 use borrow.Author.Rules.{rules}
 use Rattle.record_writing.proofs.put_record.Statement.{statement}
 use Rattle.record_writing.proofs.put_record.Tie as tie
@@ -16,13 +16,13 @@ use Rattle.record_writing.proofs.put_record.Tie as tie
 -- there is room for each part
 module _ (s : tie.Start) where
   abbrev row : List ℕ
-  row = flat_map (encodePoint 2 s.args.stored) (points_of s.args.order s.args.count (size s.args.stored) s.args.values.now)
+  row = flat_map (encode_point 2 s.args.stored) (points_of s.args.order s.args.count (size s.args.stored) s.args.values.now)
 
   abbrev rest : List ℕ
-  rest = row ++ encodeExtended (cond s.args.wanted (some s.args.extended.now) none)
+  rest = row ++ encode_extended (cond s.args.wanted (some s.args.extended.now) none)
 
-  room : Room s.args.out.now 0 (frontBytes s.args.described.now s.args.wanted s.args.count ++ rest)
-  unfolding recordBytes
+  room : Room s.args.out.now 0 (front_bytes s.args.described.now s.args.wanted s.args.count ++ rest)
+  unfolding record_bytes
   room = s.pre.1
 
 abbrev start : tie.After-put-front → tie.Start
@@ -57,7 +57,7 @@ same_length : tie.Need-same-length
 same_length c = search rules
 
 returns : tie.Need-returns
-unfolding recordBytes
+unfolding record_bytes
 returns c =
     let e = c.before.before in
     let p = e.before.before.before.before in

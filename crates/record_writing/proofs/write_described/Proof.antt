@@ -12,9 +12,9 @@ use Rattle.refusals.specs.declared.Judgement.{Judgement}
 use Rattle.refusals.specs.declared.Judgement.TheVariants.{Passed}
 use Rattle.points.specs.Points.{width}
 use Rattle.channels.specs.Descriptors.{stored}
-use Rattle.records.specs.Record.{Record, encodeExtended}
-use Rattle.record_writing.specs.Write.{putWhere, NumbersPass}
-use Rattle.record_writing.specs.Parts.{recordBytes, writeDescribed}
+use Rattle.records.specs.Record.{Record, encode_extended}
+use Rattle.record_writing.specs.Write.{put_where, NumbersPass}
+use Rattle.record_writing.specs.Parts.{record_bytes, write_described}
 use Rattle.record_writing.specs.WriteLaws.{numbers-pass, bytes-length}
 use Rattle.record_writing.specs.declared.Written.TheVariants as written
 use borrow.Author.Rules.{rules}
@@ -33,19 +33,19 @@ module _ (m : tie.After-judge-values) where
   asked = m.before.before.before.before
 
   abbrev meant : List ℕ
-  meant = recordBytes asked.args.order asked.args.described.now asked.args.stored asked.args.count asked.args.values.now asked.args.wanted asked.args.extended.now
+  meant = record_bytes asked.args.order asked.args.described.now asked.args.stored asked.args.count asked.args.values.now asked.args.wanted asked.args.extended.now
 
   by : {j : Judgement} → m.judge-values.result ≡ j
-      → writeDescribed asked.args.order asked.args.described.now asked.args.stored asked.args.count asked.args.values.now asked.args.wanted asked.args.extended.now asked.args.out.now
-      ≡ putWhere meant asked.args.out.now j
-  unfolding writeDescribed
-  by e = ap (putWhere meant asked.args.out.now) (sym m.judge-values.ensures ∙ e)
+      → write_described asked.args.order asked.args.described.now asked.args.stored asked.args.count asked.args.values.now asked.args.wanted asked.args.extended.now asked.args.out.now
+      ≡ put_where meant asked.args.out.now j
+  unfolding write_described
+  by e = ap (put_where meant asked.args.out.now) (sym m.judge-values.ensures ∙ e)
 
   pass : m.judge-values.result ≡ Passed → NumbersPass asked.args.order asked.args.stored asked.args.count asked.args.values.now asked.args.wanted asked.args.extended.now
   pass e = numbers-pass asked.args.order asked.args.stored asked.args.count asked.args.values.now asked.args.wanted asked.args.extended.now (sym m.judge-values.ensures ∙ e)
 
 returns : tie.Need-returns
-unfolding putWhere
+unfolding put_where
 returns c =
     let j = c.before in
     let m = j.before.before in
@@ -73,7 +73,7 @@ module _ (c : tie.After-record-size) where
   from = passed.before.before
 
   abbrev extra : ℕ
-  extra = length (encodeExtended (cond (asked from).args.wanted (some (asked from).args.extended.now) none))
+  extra = length (encode_extended (cond (asked from).args.wanted (some (asked from).args.extended.now) none))
 
   size : c.record-size.result ≡ length (meant from)
   size =
@@ -83,7 +83,7 @@ module _ (c : tie.After-record-size) where
       ∙ bytes-length a.order a.stored a.count a.values.now a.wanted a.extended.now a.described.now (pass from passed.enum_told.given.1).fitting
 
 returns-2 : tie.Need-returns-2
-unfolding putWhere
+unfolding put_where
 returns-2 c =
     let r = c.before in
     let e = r.before.before in
@@ -101,7 +101,7 @@ same_length : tie.Need-same-length
 same_length c = search rules
 
 returns-3 : tie.Need-returns-3
-unfolding putWhere
+unfolding put_where
 returns-3 c =
     let q = c.before.before in
     let r = q.before.before.before in

@@ -3,9 +3,9 @@ use mathlib.Core.Path.{◌≡◌, ◌∙◌}
 use Prim.Native.Nat.{◌≤◌}
 use lib.ListN.{replicate, length}
 use Rattle.formats.specs.Lent.{writing}
-use Rattle.descriptions.specs.Description.{encodeDescription}
+use Rattle.descriptions.specs.Description.{encode_description}
 use Rattle.channels.specs.declared.Format.TheVariants.{Full}
-use Rattle.description_writing.specs.Write.{putIf}
+use Rattle.description_writing.specs.Write.{put_if}
 use Rattle.descriptions.specs.SizeLaws.{description-size}
 use Rattle.description_writing.specs.AsideLaws.{aside-done, aside-refused}
 use Rattle.record_writing.specs.WriteLaws.{described-written}
@@ -25,10 +25,10 @@ module _ (m : tie.After-put) where
   abbrev start : tie.Start
   start = m.before.before.before.before
 
-  aside : writing m.put.result m.put.last.0 ≡ putIf Full start.args.description (replicate 178 0) 0
+  aside : writing m.put.result m.put.last.0 ≡ put_if Full start.args.description (replicate 178 0) 0
   aside = m.put.ensures
 
-  fits : length (encodeDescription 2 start.args.description) ≤ 178
+  fits : length (encode_description 2 start.args.description) ≤ 178
   fits = description-size 2 start.args.description
 
 enum-known-end : tie.Need-enum-known-end

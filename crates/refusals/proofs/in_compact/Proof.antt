@@ -5,7 +5,7 @@ use Prim.Native.Nat.{ℕ}
 use borrow.Author.Rules.{rules}
 use types.Run.{OneOf, miss}
 use denote.Enum.Declared.{tag_of}
-use Rattle.refusals.specs.Table.{inCompact}
+use Rattle.refusals.specs.Table.{in_compact}
 use Rattle.refusals.specs.declared.Refusal.{Refusal}
 use Rattle.refusals.specs.declared.Refusal.TheVariants.{Short, Identifier, Version, XOrY, ReservedBit, ReservedByte, OpeningBits, Switch, LeftOver, NoPoint, Untidy, OutOfRange, Amount, ExtendedSize, Room, Tag, Length, Maximum, Uncalibrated, NotCompact}
 use Rattle.refusals.specs.contracts.Refusal as refusal
@@ -16,8 +16,8 @@ use Rattle.refusals.proofs.in_compact.Tie as tie
 abbrev others : List ℕ
 others = 0 ∷ 1 ∷ 2 ∷ 3 ∷ 4 ∷ 5 ∷ 6 ∷ 7 ∷ 8 ∷ 9 ∷ 10 ∷ 12 ∷ 13 ∷ 14 ∷ 15 ∷ 16 ∷ 17 ∷ 18 ∷ 19 ∷ []
 
-itself : (r : Refusal) → OneOf others (tag_of refusal.the_type r) → r ≡ inCompact r
-unfolding inCompact
+itself : (r : Refusal) → OneOf others (tag_of refusal.the_type r) → r ≡ in_compact r
+unfolding in_compact
 itself Short h = refl
 itself (Identifier place) h = refl
 itself (Version place) h = refl
@@ -43,7 +43,7 @@ enum-known-refusal : tie.Need-enum-known-refusal
 enum-known-refusal c = search rules
 
 returns : tie.Need-returns
-unfolding inCompact
+unfolding in_compact
 returns c = rw c.before.refusal.given.1
 
 returns-2 : tie.Need-returns-2

@@ -1,6 +1,6 @@
 -- `refusals::of` meets its contract: by the failure.
 use mathlib.Core.Path.{sym, ap, ◌∙◌}
-use Rattle.refusals.specs.Table.{refusalOf}
+use Rattle.refusals.specs.Table.{refusal_of}
 use borrow.Author.Rules.{rules}
 use Rattle.refusals.proofs.of.Statement.{statement}
 use Rattle.refusals.proofs.of.Tie as tie
@@ -15,12 +15,12 @@ named-requires : tie.Need-named-requires
 named-requires c κs = search rules
 
 returns : tie.Need-returns
-unfolding refusalOf
+unfolding refusal_of
 returns c = rw c.enum_told.given.1
 
 returns-2 : tie.Need-returns-2
-unfolding refusalOf
-returns-2 c = c.named.ensures ∙ sym (ap refusalOf c.before.before.failure.given.1)
+unfolding refusal_of
+returns-2 c = c.named.ensures ∙ sym (ap refusal_of c.before.before.failure.given.1)
 
 pub of_spec : {M : Type 1} → statement M
 of_spec = tie.close (tie.spec enum_told enum-known-failure named-requires returns returns-2)

@@ -8,7 +8,7 @@ use Rattle.formats.specs.Put.{puts}
 use Rattle.formats.specs.Lent.{writing}
 use Rattle.formats.specs.Number.{two_digits, one-digit}
 use Rattle.channels.specs.Channel.{width_of}
-use Rattle.stored_numbers.specs.Numbers.{putNumber}
+use Rattle.stored_numbers.specs.Numbers.{put_number}
 use Rattle.stored_numbers.specs.NumberLaws.{put-there, put-crowded}
 use Rattle.channels.specs.declared.Format.{Format}
 use Rattle.stored_numbers.proofs.put_number.Statement.{statement}
@@ -81,7 +81,7 @@ returns-3 c =
     let a = (start e.before.before).args in
     rw (c.before.high.ensures, c.low.ensures)
     (sym
-    (ap (λ f. putNumber (width_of f) a.number a.out.now a.at) q
+    (ap (λ f. put_number (width_of f) a.number a.out.now a.at) q
     ∙ put-there 2 _ _ a.number (room e.before.before q)
     ∙ ap (λ b. writing (a.at + 2) (puts a.out.now a.at b)) (two_digits a.number (omega arith))))
 
@@ -96,7 +96,7 @@ returns-4 c =
     let a = (start e.before.before).args in
     rw c.low2.ensures
     (sym
-    (ap (λ f. putNumber (width_of f) a.number a.out.now a.at) q
+    (ap (λ f. put_number (width_of f) a.number a.out.now a.at) q
     ∙ put-there 1 _ _ a.number (room e.before.before q)
     ∙ ap (λ b. writing (a.at + 1) (puts a.out.now a.at b)) (one-digit a.number)))
 

@@ -5,7 +5,7 @@ use borrow.Author.Rules.{rules}
 use borrow.Author.Tests.{not-true, not-false}
 use Rattle.formats.specs.Laid.{Room, laid_none, within-laid}
 use Rattle.templates.specs.Template.{field}
-use Rattle.template_writing.specs.Writing.{describedBytes}
+use Rattle.template_writing.specs.Writing.{described_bytes}
 use Rattle.template_writing.proofs.Laying.{head-room, content-room, field-laid, described-none, described-field}
 use Rattle.template_writing.proofs.put_described.Statement.{statement}
 use Rattle.template_writing.proofs.put_described.Tie as tie
@@ -20,7 +20,7 @@ module _ (c : tie.Else1) where
   abbrev start : tie.Start
   start = c.before.before.before
 
-  whole : describedBytes start.args.described start.args.bytes.now ≡ field 0x81 start.args.bytes.now
+  whole : described_bytes start.args.described start.args.bytes.now ≡ field 0x81 start.args.bytes.now
   whole = described-field start.args.described start.args.bytes.now (not-false start.args.described c.if1.false)
 
   room : Room start.args.out.now start.args.at (field 0x81 start.args.bytes.now)

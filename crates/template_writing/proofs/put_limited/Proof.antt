@@ -5,7 +5,7 @@ use borrow.Author.Rules.{rules}
 use borrow.Author.Tests.{not-true, not-false}
 use lib.ListN.{length}
 use Rattle.formats.specs.Laid.{Room, laid_none}
-use Rattle.templates.specs.Template.{field, shortest, encodeLimited}
+use Rattle.templates.specs.Template.{field, shortest, encode_limited}
 use Rattle.template_writing.proofs.Laying.{length-shortest, head-room, content-room, field-laid, limited-none, limited-field}
 use Rattle.template_writing.proofs.put_limited.Statement.{statement}
 use Rattle.template_writing.proofs.put_limited.Tie as tie
@@ -15,7 +15,7 @@ module _ (c : tie.After-fewest) where
   abbrev start : tie.Start
   start = c.before.before.before.before
 
-  whole : encodeLimited start.args.limited start.args.maximum ≡ field 0x82 (shortest start.args.maximum)
+  whole : encode_limited start.args.limited start.args.maximum ≡ field 0x82 (shortest start.args.maximum)
   whole = limited-field start.args.limited start.args.maximum (not-false start.args.limited c.before.before.if1.false)
 
   size : c.fewest.result ≡ length (shortest start.args.maximum)

@@ -3,17 +3,17 @@ use mathlib.Core.List.{List, ◌++◌}
 use Prim.Native.Nat.{ℕ}
 use borrow.Author.Rules.{rules}
 use Rattle.formats.specs.Laid.{Room, laid_more, room-first, room-rest}
-use Rattle.templates.specs.Template.{field, encodeLimited}
-use Rattle.template_writing.specs.Writing.{describedBytes, templateBytes}
+use Rattle.templates.specs.Template.{field, encode_limited}
+use Rattle.template_writing.specs.Writing.{described_bytes, template_bytes}
 use Rattle.template_writing.proofs.Laying.{head-room, content-room, field-laid}
 use Rattle.template_writing.proofs.put_template.Statement.{statement}
 use Rattle.template_writing.proofs.put_template.Tie as tie
 
 abbrev content : tie.Start → List ℕ
-content s = describedBytes s.args.described s.args.bytes.now ++ encodeLimited s.args.limited s.args.maximum
+content s = described_bytes s.args.described s.args.bytes.now ++ encode_limited s.args.limited s.args.maximum
 
 room : (s : tie.Start) → Room s.args.out.now 0 (field 0xB1 (content s))
-unfolding templateBytes
+unfolding template_bytes
 room s = s.requires.2
 
 -- behind the head there is room for the fields
@@ -28,7 +28,7 @@ put-head-requires : tie.Need-put-head-requires
 put-head-requires c κs = let s = c.before.before.before in (s.requires.0, head-room 0xB1 (content s) s.requires.3 (room s))
 
 put-described-requires : tie.Need-put-described-requires
-put-described-requires c κs = let h = c.before.before.before in ((start h).requires.1, room-first (describedBytes _ _) (encodeLimited _ _) (inside h))
+put-described-requires c κs = let h = c.before.before.before in ((start h).requires.1, room-first (described_bytes _ _) (encode_limited _ _) (inside h))
 
 put-limited-requires : tie.Need-put-limited-requires
 put-limited-requires c κs = let d = c.before.before.before in room-rest d.put-described.ensures (inside d.before.before.before.before)
@@ -37,7 +37,7 @@ same_length : tie.Need-same-length
 same_length c = search rules
 
 returns : tie.Need-returns
-unfolding templateBytes
+unfolding template_bytes
 returns c =
     let l = c.before.before in
     let d = l.before.before.before.before in

@@ -7,8 +7,8 @@ use borrow.Author.Rules.{rules}
 use borrow.Author.Tests.{not-true, not-false}
 use lib.ListN.{replicate, length}
 use Rattle.formats.specs.Lent.{writing}
-use Rattle.descriptions.specs.Description.{encodeDescription}
-use Rattle.description_writing.specs.Write.{putIf}
+use Rattle.descriptions.specs.Description.{encode_description}
+use Rattle.description_writing.specs.Write.{put_if}
 use Rattle.channels.specs.declared.Format.TheVariants.{Compact}
 use Rattle.descriptions.specs.SizeLaws.{description-size}
 use Rattle.description_writing.specs.AsideLaws.{aside-done, aside-refused}
@@ -52,10 +52,10 @@ module _ (m : tie.After-put) where
   is-wanted : start.args.described ≡ true
   is-wanted = not-false start.args.described m.before.before.if1.left
 
-  aside : writing m.put.result m.put.last.0 ≡ putIf Compact start.args.description (replicate 114 0) 0
+  aside : writing m.put.result m.put.last.0 ≡ put_if Compact start.args.description (replicate 114 0) 0
   aside = m.put.ensures
 
-  fits : length (encodeDescription 1 start.args.description) ≤ 114
+  fits : length (encode_description 1 start.args.description) ≤ 114
   fits = description-size 1 start.args.description
 
 enum-known-end : tie.Need-enum-known-end

@@ -10,9 +10,9 @@ use borrow.Author.Tests.{le-leb, lt-leb}
 use lib.ListN.{length, length-append}
 use Rattle.formats.specs.Lent.{writing}
 use Rattle.template_writing.specs.declared.Written.TheVariants.{Done}
-use Rattle.templates.specs.Template.{encodeLimited}
+use Rattle.templates.specs.Template.{encode_limited}
 use Rattle.refusals.specs.Stages.{require}
-use Rattle.template_writing.specs.Writing.{putWhere, exceeds, inRoom, describedBytes, templateBytes, writeFields}
+use Rattle.template_writing.specs.Writing.{put_where, exceeds, in_room, described_bytes, template_bytes, write_fields}
 use Rattle.template_writing.proofs.Laying.{template-length, put_first}
 use Rattle.template_writing.proofs.write_fields.Statement.{statement}
 use Rattle.template_writing.proofs.write_fields.Tie as tie
@@ -21,7 +21,7 @@ exceeds-requires : tie.Need-exceeds-requires
 exceeds-requires c κs = search rules
 
 returns : tie.Need-returns
-unfolding writeFields putWhere require
+unfolding write_fields put_where require
 returns c = rw (sym c.before.exceeds.ensures ∙ c.if1.true)
 
 module _ (m : tie.After-limited-size) where
@@ -29,7 +29,7 @@ module _ (m : tie.After-limited-size) where
   start = m.before.before.before.before.before.before
 
   abbrev whole : List ℕ
-  whole = let a = start.args in templateBytes a.described a.bytes.now a.limited a.maximum
+  whole = let a = start.args in template_bytes a.described a.bytes.now a.limited a.maximum
 
   small : exceeds start.args.limited start.args.maximum ≡ false
   small = let e = m.before.before in sym e.before.exceeds.ensures ∙ e.if1.left
@@ -55,7 +55,7 @@ add-length : tie.Need-overflow-add-length
 add-length c = search rules
 
 returns-2 : tie.Need-returns-2
-unfolding writeFields putWhere inRoom require
+unfolding write_fields put_where in_room require
 returns-2 c =
     let m = c.before in
     rw (small m, lt-leb (length (whole m)) (length (start m).args.out.now) (omega (arith, size m)))
@@ -67,14 +67,14 @@ put-template-requires c κs =
       omega (arith, m.before.described-size.ensures.1, m.limited-size.ensures.1),
       (start m).requires,
       record { enough = omega (arith, room c.before) },
-      omega (arith, m.before.described-size.ensures.0, m.limited-size.ensures.0, length-append (describedBytes a.described a.bytes.now) (encodeLimited a.limited a.maximum)),
+      omega (arith, m.before.described-size.ensures.0, m.limited-size.ensures.0, length-append (described_bytes a.described a.bytes.now) (encode_limited a.limited a.maximum)),
     )
 
 same_length : tie.Need-same-length
 same_length c = search rules
 
 returns-3 : tie.Need-returns-3
-unfolding writeFields putWhere inRoom require
+unfolding write_fields put_where in_room require
 returns-3 c =
     let p = c.before.before in
     let e = p.before.before in

@@ -5,7 +5,7 @@ use native.Mathlib.Omega.{arith}
 use borrow.Author.Rules.{rules}
 use lib.ListN.{drop}
 use Rattle.descriptions.specs.Read.{nothing}
-use Rattle.templates.specs.Reading.{withContent, describedBy, contentOf, filled}
+use Rattle.templates.specs.Reading.{with_content, described_by, content_of, filled}
 use Rattle.templates.proofs.Parts.{free-from, end-within, content-there, content-missing, content-none, content-other, content-field}
 use Rattle.templates.proofs.content_of.Statement.{statement}
 use Rattle.templates.proofs.content_of.Tie as tie
@@ -16,7 +16,7 @@ module _ (c : tie.Else2) where
   start = c.before.before.before.before
 
   -- the field 81
-  field : contentOf (drop 2 start.args.s.now) ≡ withContent (drop 3 start.args.s.now) describedBy
+  field : content_of (drop 2 start.args.s.now) ≡ with_content (drop 3 start.args.s.now) described_by
   field = content-field start.args.s.now (omega arith) c.if2.false
 
 nothing-requires : tie.Need-nothing-requires
@@ -79,14 +79,14 @@ returns-3 c =
     let e = c.before.before in
     let f = e.before.before in
     c.described-by.ensures
-    ∙ sym (field f.before ∙ content-there (start f.before).args.s.now 3 describedBy (sym f.end_of_lem.ensures ∙ e.end.given.1))
+    ∙ sym (field f.before ∙ content-there (start f.before).args.s.now 3 described_by (sym f.end_of_lem.ensures ∙ e.end.given.1))
 
 returns-4 : tie.Need-returns-4
 returns-4 c =
     let e = c.before in
     let f = e.before.before in
     c.refused.ensures
-    ∙ sym (field f.before ∙ content-missing (start f.before).args.s.now 3 describedBy (sym f.end_of_lem.ensures ∙ e.enum_told.given.1))
+    ∙ sym (field f.before ∙ content-missing (start f.before).args.s.now 3 described_by (sym f.end_of_lem.ensures ∙ e.enum_told.given.1))
 
 pub content-of-spec : {M : Type 1} → statement M
 content-of-spec =

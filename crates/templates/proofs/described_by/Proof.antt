@@ -9,7 +9,7 @@ use lib.ListN.{length, take, drop}
 use Rattle.formats.specs.Reader.{run}
 use Rattle.formats.specs.Told.{failed}
 use Rattle.descriptions.specs.Description.{description}
-use Rattle.templates.specs.Reading.{describedBy, refused, faultOf, filled}
+use Rattle.templates.specs.Reading.{described_by, refused, fault_of, filled}
 use Rattle.templates.proofs.Parts.{free-from, description-done, description-failed, described-whole, described-part, described-short, described-bad}
 use Rattle.templates.proofs.described_by.Statement.{statement}
 use Rattle.templates.proofs.described_by.Tie as tie
@@ -26,7 +26,7 @@ failing c = description-failed _ _ c.before.before.before.read.ensures c.outcome
 -- a byte of it was refused
 broken : (c : tie.After-failure) → let o = c.before.before.before in
     let a = (start o.before.before).args in
-    (describedBy (take (a.end - 4) (drop 4 a.s.now)) (drop a.end a.s.now) ≡ refused (faultOf c.failure.given.0.0 (4 + c.failure.given.0.1.0)))
+    (described_by (take (a.end - 4) (drop 4 a.s.now)) (drop a.end a.s.now) ≡ refused (fault_of c.failure.given.0.0 (4 + c.failure.given.0.1.0)))
     × (4 + c.failure.given.0.1.0 < length a.s.now)
 broken c =
     let o = c.before.before.before in

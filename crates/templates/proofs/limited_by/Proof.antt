@@ -6,7 +6,7 @@ use native.Mathlib.Omega.{arith}
 use borrow.Author.Rules.{rules}
 use borrow.Author.Tests.{not-true, not-false}
 use lib.ListN.{take, drop}
-use Rattle.templates.specs.Reading.{isShortest, limitOf}
+use Rattle.templates.specs.Reading.{is_shortest, limit_of}
 use Rattle.templates.proofs.Parts.{limited-long, limited-more, limited-last}
 use Rattle.templates.proofs.limited_by.Statement.{statement}
 use Rattle.templates.proofs.limited_by.Tie as tie
@@ -14,7 +14,7 @@ use Rattle.templates.proofs.limited_by.Tie as tie
 -- the content is shortest
 few : (c : tie.Else1)
     → let a = c.before.before.before.before.args in
-    isShortest (take (a.end - a.start) (drop a.start a.s.now)) ≡ true
+    is_shortest (take (a.end - a.start) (drop a.start a.s.now)) ≡ true
 few c = sym c.before.is-shortest.ensures ∙ not-false _ c.if1.false
 
 sub-content : tie.Need-overflow-sub-content
@@ -33,7 +33,7 @@ no-limit-requires : tie.Need-no-limit-requires
 no-limit-requires c κs = search rules
 
 returns : tie.Need-returns
-returns c = c.no-limit.ensures ∙ ap limitOf (sym (limited-long _ _ _ _ (sym c.before.before.is-shortest.ensures ∙ not-true _ c.before.if1.true)))
+returns c = c.no-limit.ensures ∙ ap limit_of (sym (limited-long _ _ _ _ (sym c.before.before.is-shortest.ensures ∙ not-true _ c.before.if1.true)))
 
 number-of-requires : tie.Need-number-of-requires
 number-of-requires c κs = few c
@@ -45,7 +45,7 @@ returns-2 : tie.Need-returns-2
 returns-2 c =
     let e = c.before.before.before in
     let a = e.before.before.before.before.args in
-    c.no-limit2.ensures ∙ ap limitOf (sym (limited-more _ _ _ a.s.now a.end (few e) (omega arith)))
+    c.no-limit2.ensures ∙ ap limit_of (sym (limited-more _ _ _ a.s.now a.end (few e) (omega arith)))
 
 up-to-requires : tie.Need-up-to-requires
 up-to-requires c κs = search rules
@@ -54,7 +54,7 @@ returns-3 : tie.Need-returns-3
 returns-3 c =
     let e = c.before.before.before in
     let a = e.before.before.before.before.args in
-    c.up_to.ensures ∙ rw c.before.before.number_of_lem.ensures (ap limitOf (sym (limited-last _ _ _ a.s.now a.end (few e) (omega arith))))
+    c.up_to.ensures ∙ rw c.before.before.number_of_lem.ensures (ap limit_of (sym (limited-last _ _ _ a.s.now a.end (few e) (omega arith))))
 
 pub limited-by-spec : {M : Type 1} → statement M
 limited-by-spec =

@@ -6,7 +6,7 @@ use native.Mathlib.Omega.{arith}
 use borrow.Author.Rules.{rules}
 use lib.ListN.{drop}
 use Rattle.descriptions.specs.Read.{nothing}
-use Rattle.templates.specs.Reading.{withContent, limitedBy, limitedFrom, limitOf}
+use Rattle.templates.specs.Reading.{with_content, limited_by, limited_from, limit_of}
 use Rattle.templates.proofs.Parts.{end-within, content-there, content-missing, limited-none, limited-other, limited-field}
 use Rattle.templates.proofs.limited_from.Statement.{statement}
 use Rattle.templates.proofs.limited_from.Tie as tie
@@ -18,14 +18,14 @@ module _ (c : tie.Else2) where
 
   -- the field 82
   field : let a = start.args in
-      limitedFrom false (nothing Compact) (drop a.at a.s.now) ≡ withContent (drop (a.at + 1) a.s.now) (limitedBy false (nothing Compact))
+      limited_from false (nothing Compact) (drop a.at a.s.now) ≡ with_content (drop (a.at + 1) a.s.now) (limited_by false (nothing Compact))
   field = limited-field _ _ start.args.s.now start.args.at (omega arith) c.if2.false
 
 up-to-requires : tie.Need-up-to-requires
 up-to-requires c κs = search rules
 
 returns : tie.Need-returns
-returns c = c.up_to.ensures ∙ ap limitOf (sym (limited-none _ _ _ _ c.before.if1.true))
+returns c = c.up_to.ensures ∙ ap limit_of (sym (limited-none _ _ _ _ c.before.if1.true))
 
 shared-slice-read-if2 : tie.Need-shared-slice-read-if2
 shared-slice-read-if2 c = search rules
@@ -36,7 +36,7 @@ no-limit-requires c κs = search rules
 returns-2 : tie.Need-returns-2
 returns-2 c =
     let a = c.before.before.before.before.before.args in
-    c.no-limit.ensures ∙ ap limitOf (sym (limited-other _ _ a.s.now a.at (omega arith) c.before.if2.true))
+    c.no-limit.ensures ∙ ap limit_of (sym (limited-other _ _ a.s.now a.at (omega arith) c.before.if2.true))
 
 add-end-of : tie.Need-overflow-add-end-of
 add-end-of c = search rules
@@ -70,7 +70,7 @@ returns-3 c =
     let a = (start f.before).args in
     let z : a.at + 1 + 1 ≡ a.at + 2 = omega arith in
     c.limited-by.ensures
-    ∙ ap limitOf (sym (field f.before ∙ rw z at (content-there a.s.now (a.at + 1) (limitedBy false (nothing Compact)) (sym f.end_of_lem.ensures ∙ e.end.given.1))))
+    ∙ ap limit_of (sym (field f.before ∙ rw z at (content-there a.s.now (a.at + 1) (limited_by false (nothing Compact)) (sym f.end_of_lem.ensures ∙ e.end.given.1))))
 
 returns-4 : tie.Need-returns-4
 returns-4 c =
@@ -78,7 +78,7 @@ returns-4 c =
     let f = e.before.before in
     let a = (start f.before).args in
     c.no-limit2.ensures
-    ∙ ap limitOf (sym (field f.before ∙ content-missing a.s.now (a.at + 1) (limitedBy false (nothing Compact)) (sym f.end_of_lem.ensures ∙ e.enum_told.given.1)))
+    ∙ ap limit_of (sym (field f.before ∙ content-missing a.s.now (a.at + 1) (limited_by false (nothing Compact)) (sym f.end_of_lem.ensures ∙ e.enum_told.given.1)))
 
 pub limited-from-spec : {M : Type 1} → statement M
 limited-from-spec =

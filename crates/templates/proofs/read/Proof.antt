@@ -7,7 +7,7 @@ use borrow.Author.Tests.{lt-ltb, le-ltb, le-leb, lt-leb}
 use lib.Dec.{ltb, leb}
 use lib.ListN.{length, drop, get_or}
 use Rattle.refusals.specs.declared.Refusal.TheVariants.{Short, Length, LeftOver}
-use Rattle.templates.specs.Reading.{require, contentOf, templateOf}
+use Rattle.templates.specs.Reading.{require, content_of, template_of}
 use Rattle.templates.proofs.Parts.{template-none, template-other, template-tag, template-field}
 use Rattle.templates.proofs.read.Statement.{statement}
 use Rattle.templates.proofs.read.Tie as tie
@@ -18,11 +18,11 @@ module _ (c : tie.Else3) where
 
   -- the tag and the length byte are there
   field : let s = start.args.bytes.now in
-      templateOf s
+      template_of s
       ≡ require (ltb (get_or s 1 0) 128) Length
       (require (leb (get_or s 1 0) (length s - 2)) Short
       (require (leb (length s - 2) (get_or s 1 0)) (LeftOver (2 + get_or s 1 0))
-      (contentOf (drop 2 s))))
+      (content_of (drop 2 s))))
   field = template-field start.args.bytes.now (omega arith) (omega arith)
 
 refused-requires : tie.Need-refused-requires

@@ -4,14 +4,14 @@ use Prim.Native.Nat.{ℕ, ◌-◌, ◌^◌, ◌≤◌, ◌<◌}
 use native.Mathlib.Nat.{pow-le-pow_right}
 use native.Mathlib.Numerals.{unary_clauses, add-one}
 use native.Mathlib.Omega.{arith}
-use Rattle.texts.specs.Digits.{countFrom, digitCount}
+use Rattle.texts.specs.Digits.{count_from, digit_count}
 use Rattle.texts.specs.JoiningLaws.{count_next, count-here, count-twenty}
 use borrow.Author.Rules.{rules}
 use Rattle.texts.proofs.digit_count.Statement.{statement}
 use Rattle.texts.proofs.digit_count.Tie as tie
 
 abbrev invariant-loop : tie.invariant-loop
-invariant-loop number count₀ limit₀ count limit = (0 < count) × (count < 20) × (limit ≡ 10 ^ count) × (digitCount number ≡ countFrom (20 - count) count number)
+invariant-loop number count₀ limit₀ count limit = (0 < count) × (count < 20) × (limit ≡ 10 ^ count) × (digit_count number ≡ count_from (20 - count) count number)
 
 abbrev decreases-loop : tie.decreases-loop
 decreases-loop number count₀ limit₀ count limit = 20 - count
@@ -21,7 +21,7 @@ nineteen : (count limit : ℕ) → count < 19 → limit ≡ 10 ^ count → limit
 nineteen count limit h e = rw e (pow-le-pow_right {n = 10} (omega arith) {i = count} {j = 18} (omega (arith, h)))
 
 -- nineteen are too few
-twenty : (count limit number : ℕ) → count ≡ 19 → limit ≡ 10 ^ count → limit ≤ number → digitCount number ≡ countFrom (20 - count) count number → 20 ≡ digitCount number
+twenty : (count limit number : ℕ) → count ≡ 19 → limit ≡ 10 ^ count → limit ≤ number → digit_count number ≡ count_from (20 - count) count number → 20 ≡ digit_count number
 twenty count limit number e g h q = let k : 10 ^ 19 ≤ number = rw (g, e) at h in sym (rw e at q ∙ count-twenty number k)
 
 loop-holds : tie.Need-loop-init invariant-loop decreases-loop

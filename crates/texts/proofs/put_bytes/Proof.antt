@@ -4,13 +4,13 @@ use Prim.Native.Nat.{◌+◌, ◌-◌, ◌≤◌}
 use native.Mathlib.Omega.{arith}
 use lib.ListN.{length, drop}
 use Rattle.texts.specs.JoiningLaws.{joins-copied, joins-none}
-use Rattle.texts.specs.Gathered.{gathered, joinsAll}
+use Rattle.texts.specs.Gathered.{gathered, joins_all}
 use borrow.Author.Rules.{rules}
 use Rattle.texts.proofs.put_bytes.Statement.{statement}
 use Rattle.texts.proofs.put_bytes.Tie as tie
 
 abbrev invariant-loop : tie.invariant-loop
-invariant-loop text₀ start bytes first i₀ text i = (i ≤ length bytes) × (joinsAll (gathered text₀ start) bytes ≡ joinsAll (gathered text (first + i)) (drop i bytes))
+invariant-loop text₀ start bytes first i₀ text i = (i ≤ length bytes) × (joins_all (gathered text₀ start) bytes ≡ joins_all (gathered text (first + i)) (drop i bytes))
 
 abbrev decreases-loop : tie.decreases-loop
 decreases-loop text₀ start bytes first i₀ text i = length bytes - i

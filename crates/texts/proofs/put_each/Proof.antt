@@ -3,14 +3,14 @@ use mathlib.Core.Path.{◌≡◌, refl, sym, ap, ◌∙◌}
 use Prim.Native.Nat.{◌+◌, ◌-◌, ◌≤◌}
 use native.Mathlib.Omega.{arith}
 use lib.ListN.{length, drop}
-use Rattle.texts.specs.Gathered.{gathered, joinsAll}
+use Rattle.texts.specs.Gathered.{gathered, joins_all}
 use Rattle.texts.specs.JoiningLaws.{joins-next, joins-none}
 use borrow.Author.Rules.{rules}
 use Rattle.texts.proofs.put_each.Statement.{statement}
 use Rattle.texts.proofs.put_each.Tie as tie
 
 abbrev invariant-loop : tie.invariant-loop
-invariant-loop text₀ start bytes used₀ i₀ text used i = (i ≤ length bytes) × (joinsAll (gathered text₀ start) bytes ≡ joinsAll (gathered text used) (drop i bytes))
+invariant-loop text₀ start bytes used₀ i₀ text used i = (i ≤ length bytes) × (joins_all (gathered text₀ start) bytes ≡ joins_all (gathered text used) (drop i bytes))
 
 abbrev decreases-loop : tie.decreases-loop
 decreases-loop text₀ start bytes used₀ i₀ text used i = length bytes - i
@@ -33,7 +33,7 @@ loop-less c = search rules
 loop-again : tie.Need-loop-preserved invariant-loop decreases-loop
 loop-again c =
     let l = c.before.before.before.before in
-    (omega arith, l.loop.invariant.1 ∙ joins-next _ l.before.before.args.bytes.now l.loop.i (omega arith) ∙ ap (λ t. joinsAll t (drop (l.loop.i + 1) l.before.before.args.bytes.now)) (sym c.put.ensures))
+    (omega arith, l.loop.invariant.1 ∙ joins-next _ l.before.before.args.bytes.now l.loop.i (omega arith) ∙ ap (λ t. joins_all t (drop (l.loop.i + 1) l.before.before.args.bytes.now)) (sym c.put.ensures))
 
 returns : tie.Need-returns invariant-loop decreases-loop
 returns c =

@@ -3,15 +3,15 @@ use mathlib.Core.Path.{◌≡◌, sym, ap, ap₂, ◌∙◌}
 use Prim.Native.Nat.{◌+◌, ◌-◌, ◌≤◌}
 use native.Mathlib.Omega.{arith}
 use lib.ListN.{length, drop}
-use Rattle.texts.specs.Gathered.{joins, gathered, joinsAll}
+use Rattle.texts.specs.Gathered.{joins, gathered, joins_all}
 use Rattle.texts.specs.JoiningLaws.{hex-empty, hex-bytes, hex-next, hex-none}
-use Rattle.texts.specs.Digits.{hexPairs, hexWord}
+use Rattle.texts.specs.Digits.{hex_pairs, hex_word}
 use borrow.Author.Rules.{rules}
 use Rattle.texts.proofs.put_hex.Statement.{statement}
 use Rattle.texts.proofs.put_hex.Tie as tie
 
 abbrev invariant-loop : tie.invariant-loop
-invariant-loop text₀ start bytes used₀ i₀ text used i = (i ≤ length bytes) × (joinsAll (gathered text₀ start) (hexWord bytes) ≡ joinsAll (gathered text used) (hexPairs (drop i bytes)))
+invariant-loop text₀ start bytes used₀ i₀ text used i = (i ≤ length bytes) × (joins_all (gathered text₀ start) (hex_word bytes) ≡ joins_all (gathered text used) (hex_pairs (drop i bytes)))
 
 abbrev decreases-loop : tie.decreases-loop
 decreases-loop text₀ start bytes used₀ i₀ text used i = length bytes - i
@@ -23,7 +23,7 @@ returns : tie.Need-returns invariant-loop decreases-loop
 returns c = c.put.ensures ∙ hex-empty _ _ c.before.before.if1.true
 
 loop-holds : tie.Need-loop-init invariant-loop decreases-loop
-loop-holds c = (omega arith, ap (joinsAll _) (hex-bytes _ c.if1.false))
+loop-holds c = (omega arith, ap (joins_all _) (hex-bytes _ c.if1.false))
 
 shared-slice-read-byte : tie.Need-shared-slice-read-byte invariant-loop decreases-loop
 shared-slice-read-byte c = search rules
@@ -55,7 +55,7 @@ loop-again c =
       l.loop.invariant.1
           ∙ hex-next _ b l.loop.i (omega arith)
           ∙ ap
-          (λ t. joinsAll t (hexPairs (drop (l.loop.i + 1) b)))
+          (λ t. joins_all t (hex_pairs (drop (l.loop.i + 1) b)))
           (sym (c.put3.ensures ∙ ap₂ joins (o.put2.ensures ∙ ap (joins _) o.before.hex-digit.ensures) c.before.hex-digit2.ensures)),
     )
 

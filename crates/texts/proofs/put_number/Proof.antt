@@ -3,14 +3,14 @@ use mathlib.Core.Path.{◌≡◌, refl, ◌∙◌}
 use Prim.Native.Nat.{◌-◌, ◌≤◌}
 use native.Mathlib.Omega.{arith}
 use Rattle.formats.specs.Put.{puts}
-use Rattle.texts.specs.Digits.{lastDigits}
+use Rattle.texts.specs.Digits.{last_digits}
 use Rattle.texts.specs.JoiningLaws.{digits_last, number-joined}
 use borrow.Author.Rules.{rules}
 use Rattle.texts.proofs.put_number.Statement.{statement}
 use Rattle.texts.proofs.put_number.Tie as tie
 
 abbrev invariant-loop : tie.invariant-loop
-invariant-loop text₀ start number first end at₀ rest₀ text at rest = (first ≤ at) × (at ≤ end) × (puts text₀ first (lastDigits (end - first) number) ≡ puts text first (lastDigits (at - first) rest))
+invariant-loop text₀ start number first end at₀ rest₀ text at rest = (first ≤ at) × (at ≤ end) × (puts text₀ first (last_digits (end - first) number) ≡ puts text first (last_digits (at - first) rest))
 
 abbrev decreases-loop : tie.decreases-loop
 decreases-loop text₀ start number first end at₀ rest₀ text at rest = at

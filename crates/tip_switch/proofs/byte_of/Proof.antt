@@ -7,7 +7,7 @@ use lib.Signed.{lt_z, le_z}
 use mir.Syntax.{w32}
 use mir.Val.{SFits, to_z, of_z}
 use mir.ValLaws.{to_z-of_z}
-use Rattle.tip_switch.specs.Switch.{byteIf, isState, byte_of}
+use Rattle.tip_switch.specs.Switch.{byte_if, is_state, byte_of}
 use Rattle.channels.proofs.Numbers.{small, found}
 use Rattle.tip_switch.proofs.byte_of.Statement.{statement}
 use Rattle.tip_switch.proofs.byte_of.Tie as tie
@@ -21,11 +21,11 @@ module _ {z : ℤ} (f : SFits w32 z) where
   high t h = rw (to_z-of_z w32 z f) at h
 
 returns : tie.Need-returns
-unfolding byteIf isState
+unfolding byte_if is_state
 returns c = found 2 c.before.args.state true _ (low c.before.ranges.state true c.if1.true) refl _
 
 returns-2 : tie.Need-returns-2
-unfolding byteIf isState
+unfolding byte_if is_state
 returns-2 c =
     let s = c.before.before in
     found 2 s.args.state false true (low s.ranges.state false c.before.if1.false) (high s.ranges.state true c.if2.true) _
@@ -37,7 +37,7 @@ cast-t3 c =
     (small 2 (omega arith) s.args.state (low s.ranges.state false c.before.if1.false) (high s.ranges.state false c.if2.false))
 
 returns-3 : tie.Need-returns-3
-unfolding byteIf isState byte_of
+unfolding byte_if is_state byte_of
 returns-3 c =
     let s = c.before.before in
     rw (to_z-of_z w32 _ s.ranges.state)

@@ -2,7 +2,7 @@
 use mathlib.Core.Path.{◌≡◌, sym, ◌∙◌}
 use mir.Syntax.{w32}
 use mir.ValLaws.{to_z-of_z}
-use Rattle.values.specs.Values.{storedSample}
+use Rattle.values.specs.Values.{stored_sample}
 use Rattle.turning.proofs.Putting.{sample-byte}
 use borrow.Author.Rules.{rules}
 use Rattle.turning.proofs.byte_of.Statement.{statement}
@@ -21,7 +21,7 @@ enum_told : tie.Need-enum-told
 enum_told c = search rules
 
 -- what is stored for it
-found : (c : tie.After-stored-sample) → storedSample 1 c.before.args.channel c.before.args.value ≡ c.stored-sample.result
+found : (c : tie.After-stored-sample) → stored_sample 1 c.before.args.channel c.before.args.value ≡ c.stored-sample.result
 found c = sym (c.stored-sample.ensures ∙ rw (to_z-of_z w32 c.before.args.value c.before.ranges.value))
 
 returns : tie.Need-returns

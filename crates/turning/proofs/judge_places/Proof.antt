@@ -13,17 +13,17 @@ use Rattle.refusals.specs.Stages.{require, or_else}
 use Rattle.refusals.specs.declared.Quantity.TheVariants.{Value}
 use Rattle.refusals.specs.declared.Refusal.TheVariants.{OutOfRange}
 use Rattle.channels.specs.declared.Place.{Place}
-use Rattle.points.specs.Points.{fitsSample}
-use Rattle.values.specs.Values.{storedSample}
+use Rattle.points.specs.Points.{fits_sample}
+use Rattle.values.specs.Values.{stored_sample}
 use Rattle.values.proofs.Lent.{fits-number, fits-outside}
-use Rattle.turning.specs.Parts.{misfitIn}
+use Rattle.turning.specs.Parts.{misfit_in}
 use Rattle.turning.proofs.Judging.{pass-place, take-place, no_place}
 use Rattle.turning.proofs.judge_places.Statement.{statement}
 use Rattle.turning.proofs.judge_places.Tie as tie
 
 abbrev invariant-loop : tie.invariant-loop
 invariant-loop from places index₀ channel₀ index channel =
-    (channel ≤ 16) × (index ≤ from + channel) × (misfitIn 0 from places ≡ misfitIn channel index (drop channel places))
+    (channel ≤ 16) × (index ≤ from + channel) × (misfit_in 0 from places ≡ misfit_in channel index (drop channel places))
 
 abbrev decreases-loop : tie.decreases-loop
 decreases-loop from places index₀ channel₀ index channel = 16 - channel
@@ -69,11 +69,11 @@ module _ (c : tie.After-known-told invariant-loop decreases-loop) where
   abbrev value : ℤ
   value = c.before.place2.given.0.0
 
-  judged : misfitIn channel index (drop channel places) ≡ or_else (require (fitsSample 1 channel value) (OutOfRange (Value index channel))) (misfitIn (channel + 1) (index + 1) (drop (channel + 1) places))
+  judged : misfit_in channel index (drop channel places) ≡ or_else (require (fits_sample 1 channel value) (OutOfRange (Value index channel))) (misfit_in (channel + 1) (index + 1) (drop (channel + 1) places))
   judged = take-place channel index places (omega (arith, sixteen turn.before)) c.before.place2.given.1
 
 -- what is stored for it
-found : (c : tie.After-stored-sample invariant-loop decreases-loop) → c.stored-sample.result ≡ storedSample 1 (channel c.before) (value c.before)
+found : (c : tie.After-stored-sample invariant-loop decreases-loop) → c.stored-sample.result ≡ stored_sample 1 (channel c.before) (value c.before)
 found c = c.stored-sample.ensures ∙ rw (to_z-of_z w32 (value c.before) (sfits_of {w = w32} c.before.known-told.given.0.1))
 
 returns : tie.Need-returns invariant-loop decreases-loop

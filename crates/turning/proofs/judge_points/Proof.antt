@@ -7,17 +7,17 @@ use native.Mathlib.Omega.{arith}
 use borrow.Author.Rules.{rules}
 use lib.IntN.{ℤ}
 use lib.ListN.{length}
-use Rattle.formats.specs.Reader.{ok, readAt, times}
+use Rattle.formats.specs.Reader.{ok, read_at, times}
 use Rattle.refusals.specs.Stages.{or_else}
-use Rattle.refusals.specs.Ranges.{firstMisfit}
+use Rattle.refusals.specs.Ranges.{first_misfit}
 use Rattle.refusals.specs.declared.Judgement.{Judgement}
 use Rattle.points.specs.Points.{point, width}
-use Rattle.point_places.specs.Places.{placesIn}
+use Rattle.point_places.specs.Places.{places_in}
 use Rattle.orders.specs.Orders.{size, values_of}
 use Rattle.orders.specs.declared.Order.TheVariants.{Point}
 use Rattle.values.specs.Values.{samples}
-use Rattle.turning.specs.Parts.{misfitIn}
-use Rattle.turning.proofs.Judging.{misfitLeft, all_left, none_left, next-left}
+use Rattle.turning.specs.Parts.{misfit_in}
+use Rattle.turning.proofs.Judging.{misfit_left, all_left, none_left, next-left}
 use Rattle.turning.proofs.Standing.{ith-within}
 use Rattle.turning.proofs.judge_points.Statement.{statement}
 use Rattle.turning.proofs.judge_points.Tie as tie
@@ -25,8 +25,8 @@ use Rattle.turning.proofs.judge_points.Tie as tie
 abbrev invariant-loop : tie.invariant-loop
 invariant-loop whole start stored count wide many at₀ from₀ i₀ at from i =
     (i ≤ count) × (at ≡ start + i * wide) × (from ≡ i * many) × (from ≤ 16 * i)
-    × ((points : List (List ℤ)) (end : ℕ) → readAt (times count (point 2 stored)) whole start ≡ ok points end
-    → firstMisfit (samples 1 stored Point count (values_of Point (size stored) points)) ≡ misfitLeft stored count points i)
+    × ((points : List (List ℤ)) (end : ℕ) → read_at (times count (point 2 stored)) whole start ≡ ok points end
+    → first_misfit (samples 1 stored Point count (values_of Point (size stored) points)) ≡ misfit_left stored count points i)
 
 abbrev decreases-loop : tie.decreases-loop
 decreases-loop whole start stored count wide many at₀ from₀ i₀ at from i = count - i
@@ -85,20 +85,20 @@ module _ (c : tie.After-judge-places invariant-loop decreases-loop) where
       )
 
   -- what is told of it, and so of all
-  here : c.judge-places.result ≡ misfitIn 0 (i * size stored) (placesIn stored stored (readAt (point 2 stored) whole (start.args.start + i * width 2 stored)))
+  here : c.judge-places.result ≡ misfit_in 0 (i * size stored) (places_in stored stored (read_at (point 2 stored) whole (start.args.start + i * width 2 stored)))
   here =
       c.judge-places.ensures
-      ∙ ap₂ (misfitIn 0)
+      ∙ ap₂ (misfit_in 0)
       (turn.loop.inv.2 ∙ ap (λ k. i * k) turn.before.size.ensures.0)
-      (c.before.places.ensures ∙ ap (λ at. placesIn stored stored (readAt (point 2 stored) whole at)) stands)
+      (c.before.places.ensures ∙ ap (λ at. places_in stored stored (read_at (point 2 stored) whole at)) stands)
 
   judged : {f : Judgement} → c.judge-places.result ≡ f
-      → (points : List (List ℤ)) (end : ℕ) → readAt (times start.args.count (point 2 stored)) whole start.args.start ≡ ok points end
-      → firstMisfit (samples 1 stored Point start.args.count (values_of Point (size stored) points)) ≡ or_else f (misfitLeft stored start.args.count points (i + 1))
+      → (points : List (List ℤ)) (end : ℕ) → read_at (times start.args.count (point 2 stored)) whole start.args.start ≡ ok points end
+      → first_misfit (samples 1 stored Point start.args.count (values_of Point (size stored) points)) ≡ or_else f (misfit_left stored start.args.count points (i + 1))
   judged g points end e =
       turn.loop.inv.4 points end e
       ∙ next-left whole start.args.start stored start.args.count points end start.pre.0 e i c.before.before.loop-test.true
-      ∙ ap (λ f. or_else f (misfitLeft stored start.args.count points (i + 1))) (sym here ∙ g)
+      ∙ ap (λ f. or_else f (misfit_left stored start.args.count points (i + 1))) (sym here ∙ g)
 
 returns : tie.Need-returns invariant-loop decreases-loop
 unfolding or_else

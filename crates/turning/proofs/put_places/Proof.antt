@@ -9,15 +9,15 @@ use lib.ListN.{length, drop}
 use mir.Syntax.{w32}
 use mir.ValLaws.{to_z-of_z}
 use Rattle.formats.specs.Laid.{Room, Owed, owed_all, owed-next, owed_none, owed-room, laid-byte}
-use Rattle.values.specs.Values.{sampleBytes}
-use Rattle.turning.specs.Parts.{bytesIn}
+use Rattle.values.specs.Values.{sample_bytes}
+use Rattle.turning.specs.Parts.{bytes_in}
 use Rattle.turning.proofs.Putting.{pass-place, take-place, no-places}
 use Rattle.turning.proofs.put_places.Statement.{statement}
 use Rattle.turning.proofs.put_places.Tie as tie
 
 abbrev invariant-loop : tie.invariant-loop
 invariant-loop out₀ start places at₀ channel₀ out at channel =
-    (channel ≤ 16) × Owed out₀ start (bytesIn 0 places) out at (bytesIn channel (drop channel places))
+    (channel ≤ 16) × Owed out₀ start (bytes_in 0 places) out at (bytes_in channel (drop channel places))
 
 abbrev decreases-loop : tie.decreases-loop
 decreases-loop out₀ start places at₀ channel₀ out at channel = 16 - channel
@@ -53,20 +53,20 @@ module _ (c : tie.After-place invariant-loop decreases-loop) where
 
   -- the bytes of the places behind this one
   abbrev rest : List ℕ
-  rest = bytesIn (turn.loop.channel + 1) (drop (turn.loop.channel + 1) start.args.t3)
+  rest = bytes_in (turn.loop.channel + 1) (drop (turn.loop.channel + 1) start.args.t3)
 
 -- a number's byte comes next
 module _ (c : tie.After-byte-of invariant-loop decreases-loop) where
   abbrev found : tie.After-place invariant-loop decreases-loop
   found = c.before.before.before.before
 
-  byte : c.byte_of.result ∷ [] ≡ sampleBytes 1 (turn found).loop.channel c.before.before.place2.given.0.0
+  byte : c.byte_of.result ∷ [] ≡ sample_bytes 1 (turn found).loop.channel c.before.before.place2.given.0.0
   byte = c.byte_of.ensures ∙ rw (to_z-of_z w32 c.before.before.place2.given.0.0 (search rules))
 
   owed : Owed
       (start found).args.out.now
       (start found).args.start
-      (bytesIn 0 (start found).args.t3)
+      (bytes_in 0 (start found).args.t3)
       (turn found).loop.out
       (turn found).loop.at
       ((c.byte_of.result ∷ []) ++ rest found)

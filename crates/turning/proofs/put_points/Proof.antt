@@ -6,11 +6,11 @@ use native.Mathlib.Omega.{arith}
 use borrow.Author.Rules.{rules}
 use lib.IntN.{ℤ}
 use lib.ListN.{drop}
-use Rattle.formats.specs.Reader.{ok, readAt, times}
+use Rattle.formats.specs.Reader.{ok, read_at, times}
 use Rattle.formats.specs.Laid.{Room, Owed, owed_all, owed-next, owed_none, owed-room, room-first}
 use Rattle.points.specs.Points.{point, width}
 use Rattle.values.specs.Values.{bytes_of}
-use Rattle.turning.specs.Parts.{bytesIn}
+use Rattle.turning.specs.Parts.{bytes_in}
 use Rattle.turning.proofs.Putting.{next-bytes, all-length, all_room, no-points}
 use Rattle.turning.proofs.Standing.{counted, ith-within}
 use Rattle.turning.proofs.put_points.Statement.{statement}
@@ -19,7 +19,7 @@ use Rattle.turning.proofs.put_points.Tie as tie
 abbrev invariant-loop : tie.invariant-loop
 invariant-loop whole start stored count out₀ wide at₀ to₀ i₀ out at to i =
     (i ≤ count) × (at ≡ start + i * width 2 stored)
-    × ((points : List (List ℤ)) (end : ℕ) → readAt (times count (point 2 stored)) whole start ≡ ok points end → Owed out₀ 0 (bytes_of 1 stored points) out to (bytes_of 1 stored (drop i points)))
+    × ((points : List (List ℤ)) (end : ℕ) → read_at (times count (point 2 stored)) whole start ≡ ok points end → Owed out₀ 0 (bytes_of 1 stored points) out to (bytes_of 1 stored (drop i points)))
 
 abbrev decreases-loop : tie.decreases-loop
 decreases-loop whole start stored count out₀ wide at₀ to₀ i₀ out at to i = count - i
@@ -49,17 +49,17 @@ module _ (c : tie.After-places invariant-loop decreases-loop) where
   abbrev s : tie.Start invariant-loop decreases-loop
   s = start turn
 
-  owed : (points : List (List ℤ)) (end : ℕ) → readAt (times s.args.count (point 2 s.args.stored)) s.args.whole.now s.args.start ≡ ok points end
+  owed : (points : List (List ℤ)) (end : ℕ) → read_at (times s.args.count (point 2 s.args.stored)) s.args.whole.now s.args.start ≡ ok points end
       → Owed
       s.args.out.now
       0
       (bytes_of 1 s.args.stored points)
       turn.loop.out
       turn.loop.to
-      (bytesIn 0 c.places.result ++ bytes_of 1 s.args.stored (drop (turn.loop.i + 1) points))
+      (bytes_in 0 c.places.result ++ bytes_of 1 s.args.stored (drop (turn.loop.i + 1) points))
   owed points end e = rw (next-bytes _ _ _ _ points end s.pre.0 e turn.loop.i c.before.loop-test.true _ _ c.places.ensures turn.loop.inv.1) at (turn.loop.inv.2 points end e)
 
-  room : Room turn.loop.out turn.loop.to (bytesIn 0 c.places.result)
+  room : Room turn.loop.out turn.loop.to (bytes_in 0 c.places.result)
   room =
       let r = s.pre.2 in
       room-first _ _ (owed-room (owed r.0 r.1 r.2) (all_room _ _ _ _ _ _ s.pre.0 r.2 s.pre.1))

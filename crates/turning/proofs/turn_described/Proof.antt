@@ -5,16 +5,16 @@ use native.Mathlib.Nat.{mul-le-mul_right}
 use native.Mathlib.Omega.{arith}
 use lib.ListN.{length}
 use Rattle.formats.specs.Laid.{within-laid}
-use Rattle.formats.specs.Reader.{ok, run, readAt}
+use Rattle.formats.specs.Reader.{ok, run, read_at}
 use Rattle.formats.specs.Put.{puts}
 use Rattle.refusals.specs.declared.Judgement.{Judgement}
 use Rattle.refusals.specs.declared.Judgement.TheVariants.{Passed}
-use Rattle.records.specs.Record.{Record, fullRecord}
+use Rattle.records.specs.Record.{Record, full_record}
 use Rattle.record_fronts.specs.Front as meant
-use Rattle.record_fronts.specs.Fronted.{frontIn}
+use Rattle.record_fronts.specs.Fronted.{front_in}
 use Rattle.record_fronts.specs.declared.Front.{Front}
-use Rattle.turning.specs.Turning.{bodyBytes, judgedBody}
-use Rattle.turning.proofs.Whole.{front-within, front_reads, front-judged, body-long, body_bytes, turn-refused, turn-crowded, both-room, turn-done}
+use Rattle.turning.specs.Turning.{body_bytes, judged_body}
+use Rattle.turning.proofs.Whole.{front-within, front_reads, front-judged, body-long, body_bytes_lem, turn-refused, turn-crowded, both-room, turn-done}
 use borrow.Author.Rules.{rules}
 use Rattle.turning.proofs.turn_described.Statement.{statement}
 use Rattle.turning.proofs.turn_described.Tie as tie
@@ -33,7 +33,7 @@ module _ (b : tie.After-front-at) where
   abbrev front : Front
   front = b.Front-at.result.front
 
-  found : front ≡ frontIn (readAt meant.front start.args.whole.now 0)
+  found : front ≡ front_in (read_at meant.front start.args.whole.now 0)
   found = ap (λ h. h.front) b.Front-at.ensures
 
 judge-body-requires : tie.Need-judge-body-requires
@@ -50,8 +50,8 @@ module _ (m : tie.After-judge-body) where
   abbrev from : tie.After-front-at
   from = m.before.before.before.before
 
-  module _ (r : Record) (q : run fullRecord (start from).args.whole.now ≡ ok r (length (start from).args.whole.now)) where
-    judged : {j : Judgement} → m.judge-body.result ≡ j → judgedBody r ≡ j
+  module _ (r : Record) (q : run full_record (start from).args.whole.now ≡ ok r (length (start from).args.whole.now)) where
+    judged : {j : Judgement} → m.judge-body.result ≡ j → judged_body r ≡ j
     judged e =
         sym (front-judged _ r q (front from) (found from)) ∙ sym (m.judge-body.ensures r.points _ (front_reads _ r q (front from) (found from))) ∙ e
 
@@ -77,11 +77,11 @@ module _ (w : tie.After-width) where
   abbrev at : tie.After-judge-body
   at = w.before.before.before
 
-  module _ (r : Record) (q : run fullRecord (start (from at)).args.whole.now ≡ ok r (length (start (from at)).args.whole.now)) where
-    passed : judgedBody r ≡ Passed
+  module _ (r : Record) (q : run full_record (start (from at)).args.whole.now ≡ ok r (length (start (from at)).args.whole.now)) where
+    passed : judged_body r ≡ Passed
     passed = judged at r q w.before.enum_told.given.1
 
-    long : (front (from at)).count * w.width.result ≡ length (bodyBytes r)
+    long : (front (from at)).count * w.width.result ≡ length (body_bytes r)
     long = ap (λ n. (front (from at)).count * n) w.width.ensures.0 ∙ body-long _ r q (front (from at)) (found (from at)) passed
 
 returns-2 : tie.Need-returns-2
@@ -99,7 +99,7 @@ module _ (e : tie.Else1) where
   room =
       let a = asked.args in
       let p = asked.pre in
-      both-room a.described.now (bodyBytes p.0) a.template.now a.body.now (passed e.before p.0 p.1) (long e.before p.0 p.1) e.if1.left
+      both-room a.described.now (body_bytes p.0) a.template.now a.body.now (passed e.before p.0 p.1) (long e.before p.0 p.1) e.if1.left
 
 put-points-requires : tie.Need-put-points-requires
 put-points-requires c κs =
@@ -123,9 +123,9 @@ returns-3 c r q =
     let a = (asked e).args in
     let fits = passed e.before r q in
     let enough : 0 + length a.described.now ≤ length a.template.now = omega (arith, (room e).0) in
-    turn-done a.described.now (bodyBytes r) a.template.now a.body.now fits (long e.before r q) e.if1.false
+    turn-done a.described.now (body_bytes r) a.template.now a.body.now fits (long e.before r q) e.if1.false
     (within-laid a.described.now (record { enough = enough }) template.put.ensures).bytes
-    ((points.put-points.ensures r.points _ (front_reads _ r q (front b) (found b))).bytes ∙ ap (puts a.body.now 0) (body_bytes _ r q (front b) (found b) fits))
+    ((points.put-points.ensures r.points _ (front_reads _ r q (front b) (found b))).bytes ∙ ap (puts a.body.now 0) (body_bytes_lem _ r q (front b) (found b) fits))
 
 pub turn-described-spec : {M : Type 1} → statement M
 turn-described-spec =

@@ -5,8 +5,8 @@ use Rattle.formats.specs.Lent.{writing}
 use Rattle.templates.specs.Template.{encode}
 use Rattle.templates.specs.Reading.{saying}
 use mathlib.Core.Bool.{true, false}
-use Rattle.template_writing.specs.Writing.{writeOf}
-use Rattle.turning.specs.Turning.{compacted, bodyBytes, turning, putBoth, turned}
+use Rattle.template_writing.specs.Writing.{write_of}
+use Rattle.turning.specs.Turning.{compacted, body_bytes, turning, put_both, turned}
 use Rattle.turning.specs.declared.Turned.TheVariants.{Refused}
 use Rattle.turning.proofs.Aside.{by-body, by-numbers, aside-done, aside-refused}
 use Rattle.turning.proofs.Whole.{turn-refused}
@@ -37,8 +37,8 @@ module _ (m : tie.After-write) where
   abbrev start : tie.Start
   start = m.before.before.before.before.before.before
 
-  aside : writing m.write.result m.write.last.1.1.1.1.0 ≡ writeOf true (compacted start.args.description) false 0 (replicate 118 0)
-  aside = m.write.ensures ∙ ap (λ d. writeOf true d false 0 (replicate 118 0)) m.before.before.compact.ensures
+  aside : writing m.write.result m.write.last.1.1.1.1.0 ≡ write_of true (compacted start.args.description) false 0 (replicate 118 0)
+  aside = m.write.ensures ∙ ap (λ d. write_of true d false 0 (replicate 118 0)) m.before.before.compact.ensures
 
 part-described-end : tie.Need-slice-bounds-described-end
 part-described-end c = let e = c.before.before in let m = e.before.before.before in (aside-done _ _ _ (aside m) e.end.given.1).1
@@ -67,7 +67,7 @@ returns c r q d =
     let a = (start m).args in
     let f = aside-done _ _ _ (aside m) e.end.given.1 in
     t.turn-described.ensures r q
-    ∙ ap₂ (λ b j. putBoth b (bodyBytes r) a.template.now a.body.now j) (f.2 ∙ ap (λ x. encode (saying true (compacted x) false 0)) d) (sym (by-body r (rw d at f.0)))
+    ∙ ap₂ (λ b j. put_both b (body_bytes r) a.template.now a.body.now j) (f.2 ∙ ap (λ x. encode (saying true (compacted x) false 0)) d) (sym (by-body r (rw d at f.0)))
 
 returns-2 : tie.Need-returns-2
 unfolding turned

@@ -5,13 +5,13 @@ use native.Mathlib.Nat.{sub-zero}
 use native.Mathlib.Omega.{arith}
 use borrow.Author.Rules.{rules}
 use Rattle.refusals.specs.Stages.{or_else}
-use Rattle.refusals.specs.Ranges.{firstMisfit}
+use Rattle.refusals.specs.Ranges.{first_misfit}
 use Rattle.refusals.specs.declared.Judgement.{Judgement}
 use Rattle.channels.specs.Channel.{width_of}
 use Rattle.points.specs.Points.{channels}
 use Rattle.orders.specs.Orders.{size}
 use Rattle.orders.specs.Parts.{AllAt}
-use Rattle.values.specs.Values.{samplesIn, samplesFrom}
+use Rattle.values.specs.Values.{samples_in, samples_from}
 use Rattle.values.specs.Parts.{Inside}
 use Rattle.values.proofs.Lent.{NextPoint, next-point, next-judged, last-judged}
 use Rattle.values.proofs.judge_from.Statement.{statement}
@@ -20,7 +20,7 @@ use Rattle.values.proofs.judge_from.Tie as tie
 abbrev invariant-loop : tie.invariant-loop
 invariant-loop values count step stride format stored from₀ i₀ from i =
     (i ≤ count) × AllAt (Inside values stride (size stored)) step (count - i) from
-    × (firstMisfit (samplesFrom (width_of format) stride (channels stored) values step count 0) ≡ firstMisfit (samplesFrom (width_of format) stride (channels stored) values step (count - i) from))
+    × (first_misfit (samples_from (width_of format) stride (channels stored) values step count 0) ≡ first_misfit (samples_from (width_of format) stride (channels stored) values step (count - i) from))
 
 abbrev decreases-loop : tie.decreases-loop
 decreases-loop values count step stride format stored from₀ i₀ from i = count - i
@@ -37,12 +37,12 @@ module _ (c : tie.In-loop invariant-loop decreases-loop) where
   next = next-point _ _ _ _ start.args.count c.before.loop.i _ c.loop-test.true start.pre.3 c.before.loop.invariant.1
 
   abbrev here : Judgement
-  here = firstMisfit (samplesIn (width_of start.args.format) start.args.stride (channels start.args.stored.now) start.args.values.now c.before.loop.from)
+  here = first_misfit (samples_in (width_of start.args.format) start.args.stride (channels start.args.stored.now) start.args.values.now c.before.loop.from)
 
   abbrev later : Judgement
-  later = firstMisfit (samplesFrom (width_of start.args.format) start.args.stride (channels start.args.stored.now) start.args.values.now start.args.step (start.args.count - (c.before.loop.i + 1)) (c.before.loop.from + start.args.step))
+  later = first_misfit (samples_from (width_of start.args.format) start.args.stride (channels start.args.stored.now) start.args.values.now start.args.step (start.args.count - (c.before.loop.i + 1)) (c.before.loop.from + start.args.step))
 
-  judged : {f : Judgement} → here ≡ f → firstMisfit (samplesFrom (width_of start.args.format) start.args.stride (channels start.args.stored.now) start.args.values.now start.args.step start.args.count 0) ≡ or_else f later
+  judged : {f : Judgement} → here ≡ f → first_misfit (samples_from (width_of start.args.format) start.args.stride (channels start.args.stored.now) start.args.values.now start.args.step start.args.count 0) ≡ or_else f later
   judged e = c.before.loop.invariant.2 ∙ next-judged _ _ _ _ _ start.args.count c.before.loop.i _ c.loop-test.true ∙ ap (λ f. or_else f later) e
 
 judge-point-requires : tie.Need-judge-point-requires invariant-loop decreases-loop

@@ -11,22 +11,22 @@ use lib.ListN.{length, get_or}
 use mir.Syntax.{w32}
 use mir.ValLaws.{to_z-of_z}
 use Rattle.refusals.specs.Stages.{require, or_else}
-use Rattle.refusals.specs.Ranges.{firstMisfit}
+use Rattle.refusals.specs.Ranges.{first_misfit}
 use Rattle.refusals.specs.declared.Quantity.TheVariants.{Value}
 use Rattle.refusals.specs.declared.Refusal.TheVariants.{OutOfRange}
 use Rattle.channels.specs.Channel.{width_of}
-use Rattle.points.specs.Points.{channels, fitsSample}
-use Rattle.values.specs.Values.{samplesIn, storedSample}
+use Rattle.points.specs.Points.{channels, fits_sample}
+use Rattle.values.specs.Values.{samples_in, stored_sample}
 use Rattle.orders.specs.Parts.{many}
 use Rattle.values.specs.Parts.{Inside}
-use Rattle.values.proofs.Lent.{judgeLeft, pass-judged, pass-inside, Taken, take-inside, take-judged, judged-none, fits-number, fits-outside}
+use Rattle.values.proofs.Lent.{judge_left, pass-judged, pass-inside, Taken, take-inside, take-judged, judged-none, fits-number, fits-outside}
 use Rattle.values.proofs.judge_point.Statement.{statement}
 use Rattle.values.proofs.judge_point.Tie as tie
 
 abbrev invariant-loop : tie.invariant-loop
 invariant-loop values from stride format stored index₀ channel₀ index channel =
     (channel ≤ 16) × Inside values stride (many stored channel) index
-    × (firstMisfit (samplesIn (width_of format) stride (channels stored) values from) ≡ judgeLeft (width_of format) stride stored values channel index)
+    × (first_misfit (samples_in (width_of format) stride (channels stored) values from) ≡ judge_left (width_of format) stride stored values channel index)
 
 abbrev decreases-loop : tie.decreases-loop
 decreases-loop values from stride format stored index₀ channel₀ index channel = 16 - channel
@@ -35,7 +35,7 @@ sixteen : (s : tie.Start invariant-loop decreases-loop) → length s.args.stored
 sixteen s = s.requires.0
 
 loop-holds : tie.Need-loop-init invariant-loop decreases-loop
-unfolding many judgeLeft channels
+unfolding many judge_left channels
 loop-holds c = (omega arith, c.requires.2, refl)
 
 element-copy-out-if1 : tie.Need-element-copy-out-if1 invariant-loop decreases-loop
@@ -70,7 +70,7 @@ module _ (c : tie.Then1 invariant-loop decreases-loop) where
   taken : Taken values d stored channel index within turn.loop.inv.1
   taken = take-inside values d stored channel index within turn.loop.inv.1 c.if1.true
 
-  judged : judgeLeft w d stored values channel index ≡ or_else (require (fitsSample w channel (get_or values index (pos 0))) (OutOfRange (Value index channel))) (judgeLeft w d stored values (channel + 1) (index + d))
+  judged : judge_left w d stored values channel index ≡ or_else (require (fits_sample w channel (get_or values index (pos 0))) (OutOfRange (Value index channel))) (judge_left w d stored values (channel + 1) (index + d))
   judged = take-judged w d stored values channel index within c.if1.true
 
 mul-value : tie.Need-overflow-mul-value invariant-loop decreases-loop
@@ -91,7 +91,7 @@ enum-told-2 c = search rules
 -- what is stored for it
 found : (c : tie.After-stored-sample invariant-loop decreases-loop)
     → let t = c.before.before in
-    c.stored-sample.result ≡ storedSample (w t) (channel t) (get_or (values t) (index t) (pos 0))
+    c.stored-sample.result ≡ stored_sample (w t) (channel t) (get_or (values t) (index t) (pos 0))
 found c = let t = c.before.before in c.stored-sample.ensures ∙ rw (to_z-of_z w32 (get_or (values t) (index t) (pos 0)) (search rules))
 
 returns : tie.Need-returns invariant-loop decreases-loop

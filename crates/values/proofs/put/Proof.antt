@@ -9,7 +9,7 @@ use lib.ListN.{length}
 use Rattle.channels.specs.Channel.{width_of}
 use Rattle.points.specs.Points.{channels, width}
 use Rattle.orders.specs.Orders.{size, step, stride}
-use Rattle.values.specs.Parts.{pointsBytes}
+use Rattle.values.specs.Parts.{points_bytes}
 use Rattle.values.proofs.Lent.{Ready, ready, put-amount, put-room, put-nothing, all_room, put_all}
 use borrow.Author.Rules.{rules}
 use Rattle.values.proofs.put.Statement.{statement}
@@ -96,10 +96,10 @@ module _ (c : tie.After-stride) where
   taken : Ready (start roomed).args.values.now (size (start roomed).args.t6) (start roomed).args.count c.before.step.result c.stride.result
   taken = ready _ (start roomed).args.order _ _ _ (same fit) measured.size.ensures.0 c.before.before.if4.false measured.size.ensures.1 c.before.step.ensures c.stride.ensures
 
-  bytes : pointsBytes (width_of (start roomed).args.format) c.stride.result (channels (start roomed).args.t6) (start roomed).args.values.now c.before.step.result (start roomed).args.count 0
-      ≡ pointsBytes (width_of (start roomed).args.format) (stride (start roomed).args.order (start roomed).args.count) (channels (start roomed).args.t6) (start roomed).args.values.now (step (start roomed).args.order (size (start roomed).args.t6)) (start roomed).args.count 0
+  bytes : points_bytes (width_of (start roomed).args.format) c.stride.result (channels (start roomed).args.t6) (start roomed).args.values.now c.before.step.result (start roomed).args.count 0
+      ≡ points_bytes (width_of (start roomed).args.format) (stride (start roomed).args.order (start roomed).args.count) (channels (start roomed).args.t6) (start roomed).args.values.now (step (start roomed).args.order (size (start roomed).args.t6)) (start roomed).args.count 0
   bytes =
-      ap₂ (λ d p. pointsBytes (width_of (start roomed).args.format) d (channels (start roomed).args.t6) (start roomed).args.values.now p (start roomed).args.count 0)
+      ap₂ (λ d p. points_bytes (width_of (start roomed).args.format) d (channels (start roomed).args.t6) (start roomed).args.values.now p (start roomed).args.count 0)
       c.stride.ensures
       (c.before.step.ensures ∙ ap (step (start roomed).args.order) measured.size.ensures.0)
 

@@ -8,7 +8,7 @@ use Rattle.channels.specs.Channel.{width_of}
 use Rattle.points.specs.Points.{channels}
 use Rattle.orders.specs.Orders.{size}
 use Rattle.orders.specs.Parts.{AllAt}
-use Rattle.values.specs.Parts.{Inside, pointBytes, pointsBytes}
+use Rattle.values.specs.Parts.{Inside, point_bytes, points_bytes}
 use Rattle.values.proofs.Lent.{NextPoint, next-point, next-bytes, last-bytes}
 use Rattle.values.proofs.put_from.Statement.{statement}
 use Rattle.values.proofs.put_from.Tie as tie
@@ -16,7 +16,7 @@ use Rattle.values.proofs.put_from.Tie as tie
 abbrev invariant-loop : tie.invariant-loop
 invariant-loop out₀ start values count step stride format stored at₀ from₀ i₀ out at from i =
     (i ≤ count) × AllAt (Inside values stride (size stored)) step (count - i) from
-    × Owed out₀ start (pointsBytes (width_of format) stride (channels stored) values step count 0) out at (pointsBytes (width_of format) stride (channels stored) values step (count - i) from)
+    × Owed out₀ start (points_bytes (width_of format) stride (channels stored) values step count 0) out at (points_bytes (width_of format) stride (channels stored) values step (count - i) from)
 
 abbrev decreases-loop : tie.decreases-loop
 decreases-loop out₀ start values count step stride format stored at₀ from₀ i₀ out at from i = count - i
@@ -35,11 +35,11 @@ module _ (c : tie.In-loop invariant-loop decreases-loop) where
   owed : Owed
       start.args.out.now
       start.args.start
-      (pointsBytes (width_of start.args.format) start.args.stride (channels start.args.stored.now) start.args.values.now start.args.step start.args.count 0)
+      (points_bytes (width_of start.args.format) start.args.stride (channels start.args.stored.now) start.args.values.now start.args.step start.args.count 0)
       c.before.loop.out
       c.before.loop.at
-      (pointBytes (width_of start.args.format) start.args.stride (channels start.args.stored.now) start.args.values.now c.before.loop.from
-      ++ pointsBytes (width_of start.args.format) start.args.stride (channels start.args.stored.now) start.args.values.now start.args.step (start.args.count - (c.before.loop.i + 1)) (c.before.loop.from + start.args.step))
+      (point_bytes (width_of start.args.format) start.args.stride (channels start.args.stored.now) start.args.values.now c.before.loop.from
+      ++ points_bytes (width_of start.args.format) start.args.stride (channels start.args.stored.now) start.args.values.now start.args.step (start.args.count - (c.before.loop.i + 1)) (c.before.loop.from + start.args.step))
   owed = rw (next-bytes (width_of start.args.format) start.args.stride (channels start.args.stored.now) start.args.values.now start.args.step start.args.count c.before.loop.i c.before.loop.from c.loop-test.true) at c.before.loop.invariant.2
 
 put-point-requires : tie.Need-put-point-requires invariant-loop decreases-loop

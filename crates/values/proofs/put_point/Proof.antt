@@ -4,25 +4,25 @@ use native.Mathlib.Omega.{arith}
 use Rattle.channels.specs.Channel.{width_of}
 use Rattle.points.specs.Points.{channels}
 use Rattle.orders.specs.Parts.{many}
-use Rattle.values.specs.Parts.{bytesLeft}
+use Rattle.values.specs.Parts.{bytes_left}
 use Rattle.values.proofs.Lent.{owed-run, bytes-none}
 use borrow.Author.Rules.{rules}
 use Rattle.values.proofs.put_point.Statement.{statement}
 use Rattle.values.proofs.put_point.Tie as tie
 
 put-run-requires : tie.Need-put-run-requires
-unfolding many bytesLeft channels
+unfolding many bytes_left channels
 put-run-requires c κs = let p = c.before.before.requires in (p.0, p.1, p.2, p.3, omega arith, omega arith)
 
 put-run-requires-2 : tie.Need-put-run-requires-2
-unfolding many bytesLeft channels
+unfolding many bytes_left channels
 put-run-requires-2 c κs =
     let r = c.before.before.before in
     let p = r.before.before.before.requires in
     (p.0, p.1, r.put-run.ensures.0, owed-room r.put-run.ensures.1 p.3, omega arith, omega arith)
 
 put-run-requires-3 : tie.Need-put-run-requires-3
-unfolding many bytesLeft channels
+unfolding many bytes_left channels
 put-run-requires-3 c κs =
     let q = c.before.before.before in
     let r = q.before.before.before.before in
@@ -33,7 +33,7 @@ same_length : tie.Need-same-length
 same_length c = search rules
 
 returns : tie.Need-returns
-unfolding many bytesLeft channels
+unfolding many bytes_left channels
 returns c =
     let t = c.before.before in
     let q = t.before.before.before.before in

@@ -13,9 +13,9 @@ use mir.Val.{to_z, of_z}
 use mir.ValLaws.{to_z-of_z}
 use Rattle.formats.specs.Laid.{Owed, owed_all, owed-next, owed-room, room-first}
 use Rattle.channels.specs.Channel.{width_of}
-use Rattle.values.specs.Values.{sampleBytes}
+use Rattle.values.specs.Values.{sample_bytes}
 use Rattle.orders.specs.Parts.{many}
-use Rattle.values.specs.Parts.{Inside, bytesLeft}
+use Rattle.values.specs.Parts.{Inside, bytes_left}
 use Rattle.values.proofs.Lent.{pass-bytes, pass-inside, Taken, take-inside, take-bytes}
 use Rattle.values.proofs.put_run.Statement.{statement}
 use Rattle.values.proofs.put_run.Tie as tie
@@ -23,7 +23,7 @@ use Rattle.values.proofs.put_run.Tie as tie
 abbrev invariant-loop : tie.invariant-loop
 invariant-loop out₀ start values from stride format stored first last at₀ index₀ channel₀ out at index channel =
     (channel ≤ last) × Inside values stride (many stored channel) index
-    × Owed out₀ start (bytesLeft (width_of format) stride stored values first from) out at (bytesLeft (width_of format) stride stored values channel index)
+    × Owed out₀ start (bytes_left (width_of format) stride stored values first from) out at (bytes_left (width_of format) stride stored values channel index)
 
 abbrev decreases-loop : tie.decreases-loop
 decreases-loop out₀ start values from stride format stored first last at₀ index₀ channel₀ out at index channel =
@@ -70,10 +70,10 @@ module _ (c : tie.Then1 invariant-loop decreases-loop) where
   owed : Owed
       turn.before.before.args.out.now
       turn.before.before.args.start
-      (bytesLeft w d stored values turn.before.before.args.first turn.before.before.args.from)
+      (bytes_left w d stored values turn.before.before.args.first turn.before.before.args.from)
       turn.loop.out
       turn.loop.at
-      (sampleBytes w channel (get_or values index (pos 0)) ++ bytesLeft w d stored values (channel + 1) (index + d))
+      (sample_bytes w channel (get_or values index (pos 0)) ++ bytes_left w d stored values (channel + 1) (index + d))
   owed = rw (take-bytes w d stored values channel index within c.if1.true) at turn.loop.inv.2
 
 -- the value as the machine has it

@@ -8,10 +8,10 @@ use mir.Syntax.{w32}
 use mir.ValLaws.{to_z-of_z}
 use Rattle.formats.specs.Number.{digits, length_digits}
 use Rattle.channels.specs.Channel.{width_of}
-use Rattle.stored_numbers.specs.Numbers.{putNumber}
+use Rattle.stored_numbers.specs.Numbers.{put_number}
 use Rattle.stored_numbers.specs.NumberLaws.{part-laid}
-use Rattle.points.specs.Points.{sampleSize}
-use Rattle.values.specs.Values.{storedSample, numberIn, sampleBytes}
+use Rattle.points.specs.Points.{sample_size}
+use Rattle.values.specs.Values.{stored_sample, number_in, sample_bytes}
 use Rattle.values.proofs.put_sample.Statement.{statement}
 use Rattle.values.proofs.put_sample.Tie as tie
 
@@ -36,19 +36,19 @@ module _ (c : tie.After-width) where
   start = found.before.before.before
 
   abbrev size : ℕ
-  size = sampleSize (width_of start.args.format) start.args.channel
+  size = sample_size (width_of start.args.format) start.args.channel
 
   sized : c.width.result ≡ size
   sized = c.width.ensures.0 ∙ c.before.sample-format.ensures
 
-  stored : found.before.stored-sample.result ≡ storedSample (width_of start.args.format) start.args.channel start.args.value
+  stored : found.before.stored-sample.result ≡ stored_sample (width_of start.args.format) start.args.channel start.args.value
   stored = found.before.stored-sample.ensures ∙ rw (to_z-of_z w32 start.args.value start.fits.value)
 
-  number : found.number_in.result ≡ numberIn (storedSample (width_of start.args.format) start.args.channel start.args.value)
-  number = found.number_in.ensures ∙ ap numberIn stored
+  number : found.number_in.result ≡ number_in (stored_sample (width_of start.args.format) start.args.channel start.args.value)
+  number = found.number_in.ensures ∙ ap number_in stored
 
-  bytes : sampleBytes (width_of start.args.format) start.args.channel start.args.value ≡ digits size found.number_in.result
-  unfolding sampleBytes
+  bytes : sample_bytes (width_of start.args.format) start.args.channel start.args.value ≡ digits size found.number_in.result
+  unfolding sample_bytes
   bytes = ap (digits size) (sym number)
 
   room : start.args.at + size ≤ length start.args.out.now
@@ -80,7 +80,7 @@ returns c =
     let f = w.before.sample-format.ensures in
     rw (bytes w)
     (part-laid _ a.out.now a.at (room w) w.width.result (sized w) (found w).number_in.result
-    (p.put-number.ensures ∙ ap (λ k. putNumber k (found w).number_in.result (take (a.at + w.width.result - a.at) (drop a.at a.out.now)) 0) f))
+    (p.put-number.ensures ∙ ap (λ k. put_number k (found w).number_in.result (take (a.at + w.width.result - a.at) (drop a.at a.out.now)) 0) f))
 
 pub put-sample-spec : {M : Type 1} → statement M
 put-sample-spec =

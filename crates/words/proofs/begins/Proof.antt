@@ -6,18 +6,18 @@ use Prim.Native.Nat.{ℕ}
 use lib.ListN.{length, get_or}
 use lib.Dec.{eqb}
 use native.Mathlib.Omega.{arith}
-use Rattle.words.specs.Said.{beginsWith}
+use Rattle.words.specs.Said.{begins_with}
 use borrow.Author.Rules.{rules}
 use Rattle.words.proofs.begins.Statement.{statement}
 use Rattle.words.proofs.begins.Tie as tie
 
-none : (word : List ℕ) (mark : ℕ) → length word ≡ 0 → false ≡ beginsWith word mark
-unfolding beginsWith
+none : (word : List ℕ) (mark : ℕ) → length word ≡ 0 → false ≡ begins_with word mark
+unfolding begins_with
 none [] mark h = refl
 none (byte ∷ bytes) mark h = absurd (omega arith)
 
-some : (word : List ℕ) (mark : ℕ) → (length word ≡ 0 → ⊥) → eqb (get_or word 0 0) mark ≡ beginsWith word mark
-unfolding beginsWith
+some : (word : List ℕ) (mark : ℕ) → (length word ≡ 0 → ⊥) → eqb (get_or word 0 0) mark ≡ begins_with word mark
+unfolding begins_with
 some [] mark h = absurd (h refl)
 some (byte ∷ bytes) mark h = refl
 

@@ -5,15 +5,15 @@ use mathlib.Core.List.{List}
 use Prim.Native.Nat.{ℕ}
 use lib.ListN.{length}
 use borrow.Author.Tests.{ne_eqb}
-use Rattle.words.specs.Said.{reasonOf}
+use Rattle.words.specs.Said.{reason_of}
 use borrow.Author.Rules.{rules}
 use Rattle.words.proofs.reason.Statement.{statement}
 use Rattle.words.proofs.reason.Tie as tie
 
-missing : (good : Bool) (word : List ℕ) (otherwise : ℕ) → good ≡ false → length word ≡ 0 → 1 ≡ reasonOf good word otherwise
+missing : (good : Bool) (word : List ℕ) (otherwise : ℕ) → good ≡ false → length word ≡ 0 → 1 ≡ reason_of good word otherwise
 missing good word otherwise p q = rw (p, q) refl
 
-other : (good : Bool) (word : List ℕ) (otherwise : ℕ) → good ≡ false → (length word ≡ 0 → ⊥) → otherwise ≡ reasonOf good word otherwise
+other : (good : Bool) (word : List ℕ) (otherwise : ℕ) → good ≡ false → (length word ≡ 0 → ⊥) → otherwise ≡ reason_of good word otherwise
 other good word otherwise p q = rw (p, ne_eqb (length word) 0 q) refl
 
 returns : tie.Need-returns

@@ -6,15 +6,15 @@ use Prim.Native.Nat.{ℕ, ◌-◌}
 use lib.ListN.{length, length-drop, take, drop}
 use lib.Seq.{take_all}
 use native.Mathlib.Omega.{arith}
-use Rattle.words.specs.Said.{saysNot, withoutNot}
+use Rattle.words.specs.Said.{says_not, without_not}
 use borrow.Author.Rules.{rules}
 use Rattle.words.proofs.without_not.Statement.{statement}
 use Rattle.words.proofs.without_not.Tie as tie
 
-shorter : (word rest : List ℕ) (says : Bool) → says ≡ true → says ≡ saysNot word → rest ≡ take (length word - 1) (drop 1 word) → rest ≡ withoutNot word
+shorter : (word rest : List ℕ) (says : Bool) → says ≡ true → says ≡ says_not word → rest ≡ take (length word - 1) (drop 1 word) → rest ≡ without_not word
 shorter word rest says p q e = rw (sym q ∙ p) (e ∙ take_all (length word - 1) (drop 1 word) (simp length-drop (omega arith)))
 
-same : (word : List ℕ) (says : Bool) → says ≡ false → says ≡ saysNot word → word ≡ withoutNot word
+same : (word : List ℕ) (says : Bool) → says ≡ false → says ≡ says_not word → word ≡ without_not word
 same word says p q = rw (sym q ∙ p) refl
 
 says-not-requires : tie.Need-says-not-requires

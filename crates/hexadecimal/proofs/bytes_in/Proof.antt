@@ -5,8 +5,8 @@ use native.Mathlib.Omega.{arith}
 use borrow.Author.Tests.{leb-false}
 use mathlib.Core.Path.{◌≡◌}
 use borrow.Author.Rules.{rules}
-use Rattle.hex.proofs.bytes_in.Statement.{statement}
-use Rattle.hex.proofs.bytes_in.Tie as tie
+use Rattle.hexadecimal.proofs.bytes_in.Statement.{statement}
+use Rattle.hexadecimal.proofs.bytes_in.Tie as tie
 
 abbrev invariant-loop : tie.invariant-loop
 invariant-loop text bytes₀ count₀ at₀ bytes count at = (count ≤ length bytes₀) × (length bytes ≡ length bytes₀)
