@@ -1,4 +1,6 @@
 // Answers, as words: what a function of the library answered, put into the text without its line feed.
+#![tactic(auto)]
+
 use channels::Place;
 use record_points::Pointed;
 use record_reading::Verdict;

@@ -1,4 +1,6 @@
 // The console: one question a line, one answer a line, over every public function of the library.
+#![tactic(auto)]
+
 
 // The longest line that is read.
 const LONGEST: usize = 262144;

@@ -1,4 +1,6 @@
 // Compact bodies (clause 8.4 of ISO/IEC 19794-7:2007): the sample points that a template's descriptors rule, read and written.
+#![tactic(auto)]
+
 ghost use Rattle.std.specs.Prelude.{◌≡◌, length};
 ghost use Rattle.formats.specs.Lent.{writing};
 ghost use Rattle.channels.specs.Descriptors.{included, stored};

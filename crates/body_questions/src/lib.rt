@@ -1,4 +1,6 @@
 // The questions of compact bodies, and of a full record that is turned into one: each is read from its words, asked of the library, and answered.
+#![tactic(auto)]
+
 ghost use Rattle.std.specs.Prelude.{◌≤◌};
 
 use bodies::{Pointed, Verdict, Written};

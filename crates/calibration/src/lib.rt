@@ -1,4 +1,6 @@
 // What a reading is made of (7.3.4.3): a raw number with E and F of its channel's scaling value, each in its range; or why there is no reading.
+#![tactic(auto)]
+
 ghost use Rattle.std.specs.Prelude.{◌≡◌};
 ghost use Rattle.refusals.specs.Ranges.{first_misfit};
 ghost use Rattle.refusals.specs.declared.Judgement.TheVariants.{Refused};

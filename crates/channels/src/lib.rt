@@ -1,4 +1,6 @@
 // The sixteen channels of ISO/IEC 19794-7:2007: their order and signs, what is said of them, and their numbers as stored and as meant.
+#![tactic(auto)]
+
 ghost use Rattle.std.specs.Prelude.{◌≡◌, ◌^◌, ◌≤◌, pos};
 ghost use Rattle.formats.specs.Binary.{bit, binary};
 ghost use Rattle.channels.specs.Bits.{moved};

@@ -1,4 +1,6 @@
 // The columns of a record, as C calls for them: bench/ counts the instructions of this function, in a library of its own.
+#![tactic(auto)]
+
 ghost use Rattle.std.specs.Prelude.{◌≡◌, length};
 ghost use Rattle.formats.specs.Reader.{run};
 ghost use Rattle.records.specs.Record.{full_record};

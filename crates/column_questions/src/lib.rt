@@ -1,4 +1,6 @@
 // The questions of a record's points by column: asked of the library, and answered with the numbers that were lent.
+#![tactic(auto)]
+
 ghost use Rattle.std.specs.Prelude.{◌≤◌};
 
 use record_columns::Filled;

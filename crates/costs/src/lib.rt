@@ -1,6 +1,8 @@
 // The library's functions as C calls them: bench/ counts what each costs beside a twin written in C.
 // An answer is handed over in plain numbers: 0 for what was asked for, else the refusal's number.
 // Of sixteen descriptors or places the one that is asked for is handed over, so that all have to be made.
+#![tactic(auto)]
+
 ghost use Rattle.std.specs.Prelude.{◌≡◌, true, length};
 ghost use Rattle.formats.specs.Reader.{run, read_at};
 ghost use Rattle.formats.specs.Lent.{writing};

@@ -1,6 +1,8 @@
 // What document 01 demands, said of what the public functions answer.
 // Each function here only asks one of the library's, and promises it by the name that `Promises` gives the promise:
 // so the checker holds the names that the claims speak of to the contracts.
+#![tactic(auto)]
+
 ghost use Rattle.demands.specs.Promises as promises;
 
 use channels::{Description, Place};

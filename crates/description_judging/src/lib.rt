@@ -1,4 +1,6 @@
 // Channel descriptions that are to be written: whether they can be, at two widths.
+#![tactic(auto)]
+
 ghost use Rattle.std.specs.Prelude.{◌≡◌, Bool, ◌&&◌, ℕ, ◌-◌, ◌^◌, T};
 ghost use Rattle.channels.specs.Channel.{signed_of, width_of};
 ghost use Rattle.channels.specs.Stored.{value_of};

@@ -1,4 +1,6 @@
 // Channel descriptions that are to be written: measured and put, at two widths.
+#![tactic(auto)]
+
 ghost use Rattle.std.specs.Prelude.{◌≡◌, Bool, cond, ℕ, ◌+◌, ◌*◌, ◌≤◌, T, leb, length};
 ghost use Rattle.formats.specs.Binary.{binary};
 ghost use Rattle.formats.specs.Laid.{Room, Laid};

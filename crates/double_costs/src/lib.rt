@@ -1,4 +1,6 @@
 // Readings as doubles, as C calls for them: bench/ counts the instructions of these functions, in a library of their own.
+#![tactic(auto)]
+
 ghost use Rattle.std.specs.Prelude.{◌≡◌};
 ghost use Rattle.channels.specs.declared.Place.TheVariants.{Number};
 ghost use Rattle.doubles.specs.Reading.{told, reading, place_reading};

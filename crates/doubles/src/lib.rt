@@ -1,4 +1,6 @@
 // Readings as doubles, by a channel's scaling value (7.3.4.3): one division of the raw number by it, each first made a double without loss (request L6).
+#![tactic(auto)]
+
 ghost use Rattle.std.specs.Prelude.{◌≡◌, ◌≤◌};
 ghost use Rattle.calibration.specs.Reading.{InRange};
 ghost use Rattle.doubles.specs.Quotient.{scale_double, Quotient};

@@ -1,4 +1,6 @@
 // The fields of a question other than its description: each reading tells why its word could not be read, and the place behind it.
+#![tactic(auto)]
+
 ghost use Rattle.std.specs.Prelude.{◌≡◌, cond, ◌⊎◌, ◌≤◌, eqb};
 ghost use Rattle.fields.specs.Ahead.{Ahead};
 ghost use Rattle.words.specs.Places.{Blank};

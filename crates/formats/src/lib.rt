@@ -1,4 +1,6 @@
 // What a byte format is. Its theory is in specs/; the code of a format tells how reading it ended.
+#![tactic(auto)]
+
 ghost use Rattle.std.specs.Prelude.{◌≡◌, leb, ◌+◌, ◌*◌, ◌/◌, ◌%◌};
 ghost use Rattle.formats.specs.Lent.{writing};
 ghost use Rattle.formats.specs.Laid.{put_within};

@@ -1,4 +1,6 @@
 // Bytes in hex, as words say them.
+#![tactic(auto)]
+
 ghost use Rattle.std.specs.Prelude.{◌+◌, ◌<◌, ◌≤◌, length};
 
 // What a hex digit says, or 16 for any other byte.

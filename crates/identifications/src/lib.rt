@@ -1,4 +1,6 @@
 // What a full record begins with: the format identifier and the version (7.3.2, 7.3.3), found from any place of some bytes.
+#![tactic(auto)]
+
 ghost use Rattle.std.specs.Prelude.{◌≡◌, ◌≤◌, length};
 ghost use Rattle.formats.specs.Reader.{read_at};
 ghost use Rattle.formats.specs.Told.{told, matched};

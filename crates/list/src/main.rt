@@ -1,4 +1,6 @@
 // The listing program: what stands in a file of joined records, told in lines of text.
+#![tactic(auto)]
+
 ghost use Rattle.std.specs.Prelude.{◌≤◌, length};
 ghost use Rattle.io.specs.Counts.{IsPrefixLen};
 

@@ -1,4 +1,6 @@
 // One sample point by itself, as C calls it: bench/ counts the instructions of these functions, in a library of their own.
+#![tactic(auto)]
+
 ghost use Rattle.std.specs.Prelude.{◌≡◌};
 ghost use Rattle.lookups.specs.Lookup.{answered, look_up};
 ghost use Rattle.lookup_costs.specs.Handed.{handed_lookup, handed_place, handed_point};

@@ -1,4 +1,6 @@
 // The question of one sample point by itself: it is asked of the library, and answered with how many bytes were looked at.
+#![tactic(auto)]
+
 use record_points::Pointed;
 
 pub fn look_up(text: &mut [u8; 65536], start: u16, bytes: &[u8], index: usize) -> u16 {

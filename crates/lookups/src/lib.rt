@@ -1,4 +1,6 @@
 // One sample point looked up by itself: by the front of its record and that point alone, with how many bytes were looked at.
+#![tactic(auto)]
+
 ghost use Rattle.std.specs.Prelude.{◌≡◌, ◌+◌, ◌≤◌, length};
 ghost use Rattle.formats.specs.Reader.{read_at};
 ghost use Rattle.formats.specs.Sight.{seen, failed_sight, FailedWithin};

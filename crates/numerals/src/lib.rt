@@ -1,4 +1,6 @@
 // Numbers in decimal, as words say them.
+#![tactic(auto)]
+
 ghost use Rattle.std.specs.Prelude.{◌≡◌, true, false, ◌<◌, ◌≤◌, length, pos};
 ghost use Rattle.numerals.specs.Decimal.{continued, whole};
 ghost use Rattle.numerals.specs.Told.{Told};

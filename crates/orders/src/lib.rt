@@ -1,4 +1,6 @@
 // The two orders in which numbers of sample points are lent, point by point or column by column: how many they are, and where each stands.
+#![tactic(auto)]
+
 ghost use Rattle.std.specs.Prelude.{◌≡◌, ◌*◌, ◌≤◌, eqb};
 ghost use Rattle.orders.specs.Orders as meant;
 

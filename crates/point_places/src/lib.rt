@@ -1,4 +1,6 @@
 // A sample point of ISO/IEC 19794-7:2007 (7.4.2, 8.4) as sixteen places, at the width of either format: read channel by channel.
+#![tactic(auto)]
+
 ghost use Rattle.std.specs.Prelude.{◌≡◌};
 ghost use Rattle.formats.specs.Reader.{read_at};
 ghost use Rattle.channels.specs.Channel.{width_of};

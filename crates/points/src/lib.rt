@@ -1,4 +1,6 @@
 // Sample points of ISO/IEC 19794-7:2007 (7.4.2, 8.4), at the width of either format: measured and judged.
+#![tactic(auto)]
+
 ghost use Rattle.std.specs.Prelude.{◌≡◌, ℕ, ◌+◌, ◌*◌, ◌≤◌, ◌<◌, length, drop};
 ghost use Rattle.formats.specs.Reader.{read_at, times};
 ghost use Rattle.formats.specs.Told.{told, repeated};

@@ -1,4 +1,6 @@
 // Which number was out of its range, or what did not fit the compact format, as words of the console.
+#![tactic(auto)]
+
 use refusals::{AttributeName, Quantity};
 
 // The names of those that stand for themselves.

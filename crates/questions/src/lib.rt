@@ -1,4 +1,6 @@
 // Questions: the name of each is found, and the bytes that it is asked of; the rooms of the questions answer.
+#![tactic(auto)]
+
 use hexadecimal::Amount;
 use orders::Order;
 

@@ -1,4 +1,6 @@
 // The questions for readings, in thousandths and as doubles, of a raw number and of a place of a point: each is read from its words, asked of the library, and answered.
+#![tactic(auto)]
+
 ghost use Rattle.std.specs.Prelude.{◌≡◌, ◌<◌};
 ghost use Rattle.doubles.specs.Double.{exponent};
 ghost use Rattle.doubles.specs.Quotient.{bits_of};

@@ -1,4 +1,6 @@
 // Readings in thousandths, by a channel's scaling value (7.3.4.3).
+#![tactic(auto)]
+
 ghost use Rattle.std.specs.Prelude.{◌≡◌, ◌≤◌, pos, nat_abs, ◌<ℤ◌};
 ghost use Rattle.calibration.specs.Reading.{InRange};
 ghost use Rattle.readings.specs.Thousandths.{nearest, denominator, thousandths, told, told_place, reading, place_reading};

@@ -1,4 +1,6 @@
 // The sample points of a full record by column (request L9): all numbers of a stored channel, then those of the next, read into a lent buffer.
+#![tactic(auto)]
+
 ghost use Rattle.std.specs.Prelude.{◌≡◌, ◌+◌, ◌*◌, ◌≤◌, ◌<◌, length};
 ghost use Rattle.points.specs.Points.{sample_size, width as point_width};
 ghost use Rattle.orders.specs.Orders.{size};

@@ -1,4 +1,6 @@
 // The front of a full record, all that stands before its points (7.3, 7.4.1, 7.4.2): read from any place of some bytes.
+#![tactic(auto)]
+
 ghost use Rattle.std.specs.Prelude.{◌≡◌, ◌+◌, ◌*◌};
 ghost use Rattle.formats.specs.Reader.{read_at};
 ghost use Rattle.record_fronts.specs.Front.{opened, front as frontReader};

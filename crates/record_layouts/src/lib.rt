@@ -1,4 +1,6 @@
 // How a full record lies (7.4): its points behind its front, and its extended data behind them.
+#![tactic(auto)]
+
 ghost use Rattle.std.specs.Prelude.{◌≡◌, ◌≤◌, length};
 ghost use Rattle.formats.specs.Reader.{read_at};
 ghost use Rattle.formats.specs.Told.{told};

@@ -1,4 +1,6 @@
 // The parts of a full record that are the caller's own bytes: its extended data, and what follows it.
+#![tactic(auto)]
+
 ghost use Rattle.std.specs.Prelude.{length};
 ghost use Rattle.formats.specs.Reader.{run};
 ghost use Rattle.formats.specs.Part.{Part};

@@ -1,4 +1,6 @@
 // One sample point of a full record: whether there is one of some index, and its sixteen places.
+#![tactic(auto)]
+
 ghost use Rattle.std.specs.Prelude.{◌≡◌};
 ghost use Rattle.formats.specs.Reader.{run};
 ghost use Rattle.records.specs.Record.{full_record};

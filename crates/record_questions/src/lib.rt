@@ -1,4 +1,6 @@
 // The questions of some bytes as a record or as a file of records: each is asked of the library, and answered.
+#![tactic(auto)]
+
 use record_points::Pointed;
 use record_reading::Verdict;
 

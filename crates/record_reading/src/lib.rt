@@ -1,4 +1,6 @@
 // Bytes judged as full records of ISO/IEC 19794-7:2007 (clause 7).
+#![tactic(auto)]
+
 ghost use Rattle.std.specs.Prelude.{◌≡◌, List, ℕ, ◌≤◌, length};
 ghost use Rattle.formats.specs.Reader.{read_at, run};
 ghost use Rattle.formats.specs.Told.{told};

@@ -1,4 +1,6 @@
 // Full records of ISO/IEC 19794-7:2007 (clause 7) that are to be written: the stages that keep one from being written, and its bytes.
+#![tactic(auto)]
+
 ghost use Rattle.std.specs.Prelude.{◌≡◌, cond, T, ◌+◌, ◌*◌, ◌≤◌, ◌<◌, length};
 ghost use Rattle.std.proofs.Math.Option.{some, none};
 ghost use Rattle.formats.specs.Laid.{Room, Laid};

@@ -1,4 +1,6 @@
 // The numbered refusals of document 01 and of the requests as one type: each with its number, and with its place where the paper names one.
+#![tactic(auto)]
+
 ghost use Rattle.std.specs.Prelude.{◌≡◌};
 ghost use Rattle.refusals.specs.Table.{number_of, place_of, in_compact, named, refusal_of};
 

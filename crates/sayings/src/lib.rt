@@ -1,4 +1,6 @@
 // Descriptions as words: a word for the mark and one for each channel of which something is said, read from a line and put into a text.
+#![tactic(auto)]
+
 ghost use Rattle.std.specs.Prelude.{◌≡◌, false, ◌⊎◌};
 ghost use Rattle.descriptions.specs.Read.{nothing};
 ghost use Rattle.words.specs.Places.{Blank};

@@ -1,4 +1,6 @@
 // A stored number among bytes, of one byte or two: read and put.
+#![tactic(auto)]
+
 ghost use Rattle.std.specs.Prelude.{◌≡◌};
 ghost use Rattle.formats.specs.Lent.{writing};
 ghost use Rattle.channels.specs.Channel.{width_of};

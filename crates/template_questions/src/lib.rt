@@ -1,4 +1,6 @@
 // The question of some bytes as a compact parameter template: it is asked of the library, and answered.
+#![tactic(auto)]
+
 use refusals::Judgement;
 
 // The template that the bytes are, its maximum first, since a description has any number of words.

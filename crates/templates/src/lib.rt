@@ -1,4 +1,6 @@
 // The compact parameter template (clause 8.2 of ISO/IEC 19794-7:2007): what bytes are read as.
+#![tactic(auto)]
+
 ghost use Rattle.std.specs.Prelude.{◌≡◌, true, false, ◌-◌, ◌≤◌, length, take, drop};
 ghost use Rattle.formats.specs.Number.{value};
 ghost use Rattle.templates.specs.Reading.{saying, accepted, refused, end_of, is_shortest, limited_by, limited_from, limit_of, filled, described_by, content_of, template_of};

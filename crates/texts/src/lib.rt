@@ -2,6 +2,8 @@
 // Each function takes the text and how many bytes are gathered, and answers how many are gathered then.
 // Sixteen bits count them, so that there is always room for one more.
 // What the text holds then is promised. What standard output receives is not: no contract can say it.
+#![tactic(auto)]
+
 ghost use Rattle.std.specs.Prelude.{◌≡◌, ◌+◌, ◌<◌, nat_abs};
 ghost use Rattle.texts.specs.Gathered.{gathered, joins, joins_all, room_from};
 ghost use Rattle.texts.specs.Digits.{digit_count, joins_number, joins_field, joins_long, hex_digit, hex_word};

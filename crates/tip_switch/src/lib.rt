@@ -1,4 +1,6 @@
 // The tip switch of a sample point, S: how its state is stored (7.4.2, as decided: docs/DECISIONS.md).
+#![tactic(auto)]
+
 ghost use Rattle.std.specs.Prelude.{◌≡◌};
 ghost use Rattle.tip_switch.specs.Switch.{state_of, state_if, byte_if};
 

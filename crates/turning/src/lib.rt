@@ -1,4 +1,6 @@
 // Turning (request L4): a full record made a compact template of 81 alone and a body.
+#![tactic(auto)]
+
 ghost use Rattle.std.specs.Prelude.{◌≡◌, List, [], ◌∷◌, ℕ, ◌*◌, ◌≤◌, ◌<◌, ℤ, length};
 ghost use Rattle.formats.specs.Reader.{ok, run, read_at, times};
 ghost use Rattle.formats.specs.Laid.{Room, Laid};

@@ -1,4 +1,6 @@
 // Values of sample points as a writer is lent them, point by point or column by column: whether they fit, and their bytes.
+#![tactic(auto)]
+
 ghost use Rattle.std.specs.Prelude.{◌≡◌, ◌+◌, ◌≤◌, ◌<◌, length};
 ghost use Rattle.formats.specs.Laid.{Room, Laid, Owed};
 ghost use Rattle.formats.specs.Lent.{writing};

@@ -1,4 +1,6 @@
 // A file of joined records, one record at a time: from a place of the file, and by a walker that keeps the place.
+#![tactic(auto)]
+
 ghost use Rattle.std.specs.Prelude.{◌≡◌};
 ghost use Rattle.walks.specs.Walk.{stays, step_of, at_start, moved};
 

@@ -1,4 +1,6 @@
 // Words of a line: where they stand, how they begin, which of some names they are.
+#![tactic(auto)]
+
 ghost use Rattle.std.specs.Prelude.{◌≡◌, ◌-◌, take, drop};
 ghost use Rattle.words.specs.Places.{Sought, Skipped, Word};
 ghost use Rattle.words.specs.Said.{begins_with, says_not, without_not, reason_of};

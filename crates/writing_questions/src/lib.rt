@@ -1,4 +1,6 @@
 // The questions that write, a record and a template: each is read from its words, asked of the library, and answered.
+#![tactic(auto)]
+
 ghost use Rattle.std.specs.Prelude.{◌≤◌};
 
 use answers::Answer;
