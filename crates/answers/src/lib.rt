@@ -13,14 +13,14 @@ pub const NO_SUCH_QUESTION: usize = 7;
 pub const TOO_LONG: usize = 8;
 
 // What refusal 12 or 21 names, if anything.
-#[derive(Drop)]
+#[derive(Clone, Copy)]
 pub enum Named {
     Nothing,
     Number(Quantity),
 }
 
 // How an answer begins: a word, up to two numbers, perhaps a last word, and perhaps the number that was out of its range.
-#[derive(Drop)]
+#[derive(Clone, Copy)]
 pub struct Answer {
     word: usize,
     count: usize,

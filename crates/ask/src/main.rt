@@ -54,7 +54,7 @@ fn take(text: &mut [u8; 65536], line: &mut [u8; 262144], start: usize, bytes: &[
 }
 
 // What one read brought: whether more can come, whether it failed, and how much is gathered of a line.
-#[derive(Drop)]
+#[derive(Clone, Copy)]
 struct Turn {
     more: bool,
     failed: bool,

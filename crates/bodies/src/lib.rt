@@ -15,7 +15,7 @@ use orders::Order;
 use refusals::{Judgement, Quantity, Refusal};
 
 // What a template says of its bodies: whether there can be one, which channels a point has, and how many points there may be.
-#[derive(Drop)]
+#[derive(Clone, Copy)]
 struct Rule {
     judgement: Judgement,
     included: [bool; 16],
@@ -67,7 +67,7 @@ fn begun(width: usize, bytes: usize) -> usize
 }
 
 // What is judged of a body: how many points it has; or which of the two was refused, the template or the body.
-#[derive(Drop)]
+#[derive(Clone, Copy)]
 pub enum Verdict {
     Body { count: usize },
     TemplateRefused(Refusal),
@@ -103,7 +103,7 @@ fn verdict_by(body: &[u8], stored: [bool; 16], limited: bool, maximum: u32) -> V
 }
 
 // A verdict, and the template's description, which says nothing of any channel where there is no body.
-#[derive(Drop)]
+#[derive(Clone, Copy)]
 pub struct Judged {
     pub verdict: Verdict,
     pub description: Description,
@@ -143,7 +143,7 @@ pub fn judge(template: &[u8], body: &[u8]) -> Judged
 }
 
 // Whether a body has a point of some index, counted from 0.
-#[derive(Drop)]
+#[derive(Clone, Copy)]
 pub enum Pointed {
     Point,
     TemplateRefused(Refusal),
@@ -201,7 +201,7 @@ pub fn point(template: &[u8], body: &[u8], index: usize) -> [Place; 16]
 }
 
 // What became of a body that was to be written: its length; or which was refused, the template or what was to be written.
-#[derive(Drop)]
+#[derive(Clone, Copy)]
 pub enum Written {
     Body { length: usize },
     TemplateRefused(Refusal),

@@ -9,7 +9,7 @@ use refusals::Refusal;
 use turning::Turned;
 
 // How many bytes the words of a line say, and why they say none.
-#[derive(Drop)]
+#[derive(Clone, Copy)]
 struct Bytes {
     reason: usize,
     count: usize,

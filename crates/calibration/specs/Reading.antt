@@ -1,7 +1,7 @@
 -- A reading: the stored value divided by the scaling value (7.3.4.3), as document 01 has it, whatever the division gives; without a scaling value there is none, as request L3 has it.
 use Rattle.std.specs.Prelude.{cond, ◌&&◌, List, [], ◌∷◌, ℕ, ◌/◌, ◌%◌, ◌≤◌, ℤ, pos, negsuc, nat_abs, leb}
 use Rattle.std.specs.Int.Signed.{le_z}
-use Rattle.refusals.specs.Ranges.{Ranged, ◌fitsIf◌, first_misfit}
+use Rattle.refusals.specs.Ranges.{Ranged, ◌fits_if◌, first_misfit}
 use Rattle.refusals.specs.declared.Quantity.TheVariants.{Raw, Exponent, Fraction}
 use Rattle.refusals.specs.declared.Refusal.{Refusal}
 use Rattle.refusals.specs.declared.Refusal.TheVariants.{Uncalibrated}

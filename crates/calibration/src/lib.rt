@@ -11,7 +11,7 @@ use channels::{Attribute, Place};
 use refusals::{Judgement, Quantity, Refusal};
 
 // A raw number with E and F of its scaling value.
-#[derive(Drop)]
+#[derive(Clone, Copy)]
 pub struct Scaled {
     pub raw: i64,
     pub exponent: u64,
@@ -19,7 +19,7 @@ pub struct Scaled {
 }
 
 // What a place of a point comes to by its channel's scaling value: absent; or 20 without such a value, and 12 where a number is out of its range; or what is to be divided.
-#[derive(Drop)]
+#[derive(Clone, Copy)]
 pub enum Calibrated {
     Absent,
     Refused(Refusal),

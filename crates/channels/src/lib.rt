@@ -43,14 +43,14 @@ pub const EL: usize = 14; // elevation
 pub const R: usize = 15; // rotation
 
 // A channel attribute: whether its flag is set, and its number, 0 where the flag isn't.
-#[derive(Drop)]
+#[derive(Clone, Copy)]
 pub struct Attribute {
     pub given: bool,
     pub number: i32,
 }
 
 // What a channel's descriptor says (7.3.4.2).
-#[derive(Drop)]
+#[derive(Clone, Copy)]
 pub struct Descriptor {
     pub included: bool,
     pub scaling: Attribute,
@@ -63,14 +63,14 @@ pub struct Descriptor {
 }
 
 // The full format stores a number in two bytes (clause 7), the compact one in one (clause 8).
-#[derive(Drop)]
+#[derive(Clone, Copy)]
 pub enum Format {
     Full,
     Compact,
 }
 
 // A descriptor for each channel, in their order, and the mark: the format that the description is of (request L4).
-#[derive(Drop)]
+#[derive(Clone, Copy)]
 pub struct Description {
     pub channels: [Descriptor; 16],
     pub mark: Format,
@@ -128,7 +128,7 @@ pub fn stored_channels(d: Description) -> [bool; 16]
 }
 
 // What a sample point says of a channel.
-#[derive(Drop)]
+#[derive(Clone, Copy)]
 pub enum Place {
     Absent,
     Constant,
@@ -202,7 +202,7 @@ pub fn value_of(format: Format, signed: bool, number: u16) -> i32
 }
 
 // What is stored for a number, if anything is.
-#[derive(Drop)]
+#[derive(Clone, Copy)]
 pub enum Stored {
     Number(u16),
     Outside,

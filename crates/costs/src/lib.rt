@@ -29,7 +29,7 @@ use walks::Found;
 
 // What a description says of one channel.
 #[repr(C)]
-#[derive(Drop)]
+#[derive(Clone, Copy)]
 pub struct Said {
     pub included: bool,
     pub constant: bool,
@@ -79,7 +79,7 @@ fn place_of(refusal: Refusal) -> usize
 
 // A verdict: the refusal's number, the length or the refusal's place, the count, and whether there are extended data.
 #[repr(C)]
-#[derive(Drop)]
+#[derive(Clone, Copy)]
 pub struct Judgement {
     pub number: u64,
     pub place: usize,
@@ -122,7 +122,7 @@ pub extern "C" fn costs_judge(bytes: &[u8], channel: usize) -> Judgement
 
 // What a description says of one channel, read from a place of some bytes; the place behind it, or the refusal's number and place.
 #[repr(C)]
-#[derive(Drop)]
+#[derive(Clone, Copy)]
 pub struct Told {
     pub number: u64,
     pub place: usize,
@@ -163,7 +163,7 @@ pub extern "C" fn costs_describe(bytes: &[u8], compact: bool, channel: usize) ->
 
 // One place of a point: 0 absent, 1 constant, 2 a number.
 #[repr(C)]
-#[derive(Drop)]
+#[derive(Clone, Copy)]
 pub struct Seat {
     pub kind: u64,
     pub value: i32,
@@ -194,7 +194,7 @@ pub extern "C" fn costs_point(bytes: &[u8], index: usize, channel: usize) -> Sea
 
 // The length of a part of the caller's bytes, and its first byte.
 #[repr(C)]
-#[derive(Drop)]
+#[derive(Clone, Copy)]
 pub struct Piece {
     pub length: usize,
     pub first: u8,
@@ -232,7 +232,7 @@ pub extern "C" fn costs_rest(bytes: &[u8]) -> Piece
 
 // A refusal's number, and the length of what was written.
 #[repr(C)]
-#[derive(Drop)]
+#[derive(Clone, Copy)]
 pub struct Done {
     pub number: u64,
     pub length: usize,
@@ -267,7 +267,7 @@ pub extern "C" fn costs_write(
 
 // A step over a file: the refusal's number or, at its end, 100; what was found, and the place afterwards.
 #[repr(C)]
-#[derive(Drop)]
+#[derive(Clone, Copy)]
 pub struct Stepped {
     pub number: u64,
     pub place: usize,
@@ -314,7 +314,7 @@ pub extern "C" fn costs_step(file: &[u8], place: usize) -> Stepped
 
 // A template: the refusal's number and place, and what is in it.
 #[repr(C)]
-#[derive(Drop)]
+#[derive(Clone, Copy)]
 pub struct Templated {
     pub number: u64,
     pub place: usize,
@@ -382,7 +382,7 @@ pub extern "C" fn costs_write_template(
 
 // A reading: the refusal's number, 0 for thousandths and 1 for an absent place.
 #[repr(C)]
-#[derive(Drop)]
+#[derive(Clone, Copy)]
 pub struct Read {
     pub number: u64,
     pub thousandths: i64,

@@ -1,7 +1,7 @@
 -- Whether a channel description can be written; and which of its numbers is the first out of its range.
 use Rattle.std.specs.Prelude.{Bool, false, ◌&&◌, List, [], ◌∷◌, ◌++◌, ℕ, suc}
 use Rattle.refusals.specs.Stages.{require, stages}
-use Rattle.refusals.specs.Ranges.{Ranged, ◌fitsIf◌, first_misfit}
+use Rattle.refusals.specs.Ranges.{Ranged, ◌fits_if◌, first_misfit}
 use Rattle.refusals.specs.declared.AttributeName.TheVariants.{Scaling, Minimum, Maximum, Mean, Deviation}
 use Rattle.refusals.specs.declared.Where.TheVariants.{Nowhere}
 use Rattle.refusals.specs.declared.Quantity.TheVariants.{Attribute}

@@ -162,7 +162,7 @@ fn put_description(out: &mut [u8], start: usize, description: Description, forma
 }
 
 // What became of a description that was to be written.
-#[derive(Drop)]
+#[derive(Clone, Copy)]
 pub enum Written {
     Done(usize), // where it ends
     Refused(Refusal),

@@ -11,7 +11,7 @@ use doubles::{PlaceReading, Reading};
 
 // A reading: 0 and the double, or the refusal's number.
 #[repr(C)]
-#[derive(Drop)]
+#[derive(Clone, Copy)]
 pub struct Read {
     pub number: u64,
     pub double: f64,

@@ -11,14 +11,14 @@ use channels::{Attribute, Place};
 use refusals::{Judgement, Refusal};
 
 // A double; or refusal 12, which names the first of raw, E and F that is out of its range; or 20, for a place whose channel has no scaling value.
-#[derive(Drop)]
+#[derive(Clone, Copy)]
 pub enum Reading {
     Double(f64),
     Refused(Refusal),
 }
 
 // What a place of a point reads as.
-#[derive(Drop)]
+#[derive(Clone, Copy)]
 pub enum PlaceReading {
     Absent,
     Present(Reading),

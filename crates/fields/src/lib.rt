@@ -39,7 +39,7 @@ fn says_none(word: &[u8]) -> bool {
 }
 
 // A place of a point, as `point` answers it.
-#[derive(Drop)]
+#[derive(Clone, Copy)]
 pub struct Placed {
     pub reason: usize,
     pub place: Place,
@@ -72,7 +72,7 @@ pub fn place_at(line: &[u8], at: usize) -> Placed
 }
 
 // A channel's scaling value, or none, or a number without its flag.
-#[derive(Drop)]
+#[derive(Clone, Copy)]
 pub struct Scaling {
     pub reason: usize,
     pub attribute: Attribute,
@@ -96,7 +96,7 @@ pub fn scaling_at(line: &[u8], at: usize) -> Scaling
 }
 
 // What a record is to be written of, besides its description.
-#[derive(Drop)]
+#[derive(Clone, Copy)]
 pub struct Wanted {
     pub reason: usize,
     pub count: usize,
@@ -133,7 +133,7 @@ pub fn record_at(
 }
 
 // How many values, or bytes, a word says, and whether they are wanted.
-#[derive(Drop)]
+#[derive(Clone, Copy)]
 struct Given {
     reason: usize,
     wanted: bool,
@@ -167,7 +167,7 @@ fn extended_at(line: &[u8], at: usize, space: &mut [u8; 131072]) -> Given {
 }
 
 // What a template is to be written of, besides its description.
-#[derive(Drop)]
+#[derive(Clone, Copy)]
 pub struct Template {
     pub reason: usize,
     pub limited: bool,

@@ -6,7 +6,7 @@ ghost use Rattle.formats.specs.Lent.{writing};
 ghost use Rattle.formats.specs.Laid.{put_within};
 
 // How reading fails.
-#[derive(Drop)]
+#[derive(Clone, Copy)]
 pub enum Failure {
     // The bytes ran out.
     Short,
@@ -15,7 +15,7 @@ pub enum Failure {
 }
 
 // How reading ended.
-#[derive(Drop)]
+#[derive(Clone, Copy)]
 pub enum Outcome {
     // All is well: the place after what was read.
     Done(usize),

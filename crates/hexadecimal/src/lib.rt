@@ -28,7 +28,7 @@ fn byte_of(high: u8, low: u8) -> u16
 }
 
 // How many bytes, or values, a text says; or that it says none.
-#[derive(Drop)]
+#[derive(Clone, Copy)]
 pub struct Amount {
     pub good: bool,
     pub count: usize,

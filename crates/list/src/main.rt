@@ -137,7 +137,7 @@ fn list(file: &[u8]) {
 }
 
 // How many bytes were read, and whether a read failed: a part of a file is not listed as if it were all.
-#[derive(Drop)]
+#[derive(Clone, Copy)]
 struct Input {
     read: usize,
     failed: bool,

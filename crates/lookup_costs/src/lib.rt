@@ -10,7 +10,7 @@ use record_points::Pointed;
 
 // 0 or the refusal's number, and how many bytes were looked at.
 #[repr(C)]
-#[derive(Drop)]
+#[derive(Clone, Copy)]
 pub struct Looked {
     pub number: u64,
     pub looked: usize,

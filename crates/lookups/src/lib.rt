@@ -26,7 +26,7 @@ fn looked_from(start: usize, size: usize, failure: Failure) -> usize
 }
 
 // Whether there is such a point, and how many bytes were looked at to say so.
-#[derive(Drop)]
+#[derive(Clone, Copy)]
 pub struct Lookup {
     pub pointed: Pointed,
     pub looked: usize,

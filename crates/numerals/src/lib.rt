@@ -8,7 +8,7 @@ ghost use Rattle.numerals.specs.Told.{Told};
 use hexadecimal::Amount;
 
 // A number that one to eighteen digits say, or that they say none. It is below 10^18, so that 64 bits hold it with either sign.
-#[derive(Drop)]
+#[derive(Clone, Copy)]
 struct Digits {
     good: bool,
     magnitude: u64,
@@ -46,7 +46,7 @@ fn digits_in(word: &[u8]) -> Digits
 }
 
 // A whole number, or that there is none.
-#[derive(Drop)]
+#[derive(Clone, Copy)]
 struct Whole {
     good: bool,
     value: i64,
@@ -71,7 +71,7 @@ fn whole_in(word: &[u8]) -> Whole
 }
 
 // A number that 32 bits hold with its sign, or that there is none.
-#[derive(Drop)]
+#[derive(Clone, Copy)]
 pub struct Small {
     pub good: bool,
     pub value: i32,
@@ -95,7 +95,7 @@ pub fn small_in(word: &[u8]) -> Small
 }
 
 // A number that is not negative and at most some other, or that there is none.
-#[derive(Drop)]
+#[derive(Clone, Copy)]
 pub struct Natural {
     pub good: bool,
     pub value: u64,
@@ -119,7 +119,7 @@ pub fn natural_in(word: &[u8], most: u64) -> Natural
 }
 
 // A number that a line says at a place: why it says none, the number, and the place behind its word.
-#[derive(Drop)]
+#[derive(Clone, Copy)]
 pub struct Count {
     pub reason: usize,
     pub value: u64,
@@ -140,7 +140,7 @@ pub fn natural_at(line: &[u8], at: usize, most: u64) -> Count
 }
 
 // A whole number that a line says at a place.
-#[derive(Drop)]
+#[derive(Clone, Copy)]
 pub struct Signed {
     pub reason: usize,
     pub value: i64,

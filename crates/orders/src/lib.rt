@@ -5,7 +5,7 @@ ghost use Rattle.std.specs.Prelude.{◌≡◌, ◌*◌, ◌≤◌, eqb};
 ghost use Rattle.orders.specs.Orders as meant;
 
 // How the numbers of points are lent: a point after the other, or a stored channel after the other.
-#[derive(Drop)]
+#[derive(Clone, Copy)]
 pub enum Order {
     Point,
     Column,

@@ -13,7 +13,7 @@ use formats::Failure;
 use tip_switch::Switch;
 
 // What a sample point holds of a channel and where that ends, or how reading it fails.
-#[derive(Drop)]
+#[derive(Clone, Copy)]
 enum Sample {
     Number { value: i32, next: usize },
     Failed(Failure),
@@ -49,7 +49,7 @@ fn sample_at(bytes: &[u8], at: usize, format: Format, channel: usize) -> Sample
 }
 
 // What a sample point says of a channel and where that ends, or how reading it fails.
-#[derive(Drop)]
+#[derive(Clone, Copy)]
 pub enum PlaceRead {
     Read { place: Place, next: usize },
     Failed(Failure),

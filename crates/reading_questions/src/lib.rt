@@ -9,7 +9,7 @@ ghost use Rattle.doubles.specs.Reading.{IsNumber};
 use channels::{Attribute, Place};
 
 // A raw number, E and F; or why they could not be read.
-#[derive(Drop)]
+#[derive(Clone, Copy)]
 struct Asked {
     reason: usize,
     raw: i64,
@@ -31,7 +31,7 @@ fn asked_at(line: &[u8], at: usize) -> Asked {
 }
 
 // A place of a point, and its channel's scaling value; or why they could not be read.
-#[derive(Drop)]
+#[derive(Clone, Copy)]
 struct PlaceAsked {
     reason: usize,
     place: Place,

@@ -83,7 +83,7 @@ fn fill(
 }
 
 // What became of a buffer that was lent for columns.
-#[derive(Drop)]
+#[derive(Clone, Copy)]
 pub enum Filled {
     Columns,
     Refused(Refusal),

@@ -11,7 +11,7 @@ use descriptions::Measured;
 use formats::{Failure, Outcome};
 
 // How reading what opens a body ended, whether it announces extended data, and how many points it counts.
-#[derive(Drop)]
+#[derive(Clone, Copy)]
 struct Opened {
     outcome: Outcome,
     announced: bool,
@@ -63,7 +63,7 @@ fn opened_at(s: &[u8], at: usize) -> Opened
 
 // The front of a record: of each channel whether it is included and whether the points hold a number of it,
 // whether extended data are announced, how many points there are, and where they begin.
-#[derive(Drop)]
+#[derive(Clone, Copy)]
 pub struct Front {
     pub included: [bool; 16],
     pub stored: [bool; 16],
@@ -73,7 +73,7 @@ pub struct Front {
 }
 
 // How reading a front ended, and the front, which says nothing where there is none.
-#[derive(Drop)]
+#[derive(Clone, Copy)]
 pub struct Fronted {
     pub outcome: Outcome,
     pub front: Front,

@@ -42,7 +42,7 @@ fn extension_end(s: &[u8], start: usize, announced: bool) -> Outcome
 
 // How a record lies behind its front: how it ended, whether extended data are announced, how many points there are, and the place behind the last.
 // The flags of its channels stay with the front: only a point needs them, and they are dear to copy.
-#[derive(Drop)]
+#[derive(Clone, Copy)]
 pub struct Layout {
     pub outcome: Outcome,
     pub announced: bool,

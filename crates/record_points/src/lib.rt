@@ -11,7 +11,7 @@ use formats::Outcome;
 use refusals::Refusal;
 
 // Whether a record has a point of some index, counted from 0.
-#[derive(Drop)]
+#[derive(Clone, Copy)]
 pub enum Pointed {
     Point,
     Refused(Refusal),

@@ -17,7 +17,7 @@ use record_layouts::Layout;
 use refusals::Refusal;
 
 // What is judged of some bytes.
-#[derive(Drop)]
+#[derive(Clone, Copy)]
 pub enum Verdict {
     Record {
         length: usize,
@@ -28,7 +28,7 @@ pub enum Verdict {
 }
 
 // A verdict, and the record's tidy description, which says nothing of any channel where there is no record.
-#[derive(Drop)]
+#[derive(Clone, Copy)]
 pub struct Judged {
     pub verdict: Verdict,
     pub description: Description,

@@ -1,7 +1,7 @@
 -- Which number refusal 12 of a record's writer names (request L2): what is claimed of it.
 use Rattle.std.specs.Prelude.{◌≡◌, Bool, List, ◌∷◌, ◌++◌, ℕ, ◌*◌, T, ℤ, length}
 use Rattle.formats.specs.Lent.{writing}
-use Rattle.refusals.specs.Ranges.{Ranged, ◌fitsIf◌, FirstOutside}
+use Rattle.refusals.specs.Ranges.{Ranged, ◌fits_if◌, FirstOutside}
 use Rattle.refusals.specs.declared.Quantity.{Quantity}
 use Rattle.refusals.specs.declared.Quantity.TheVariants.{Count}
 use Rattle.refusals.specs.declared.Refusal.TheVariants.{OutOfRange}

@@ -16,7 +16,7 @@ use orders::Order;
 use refusals::{Judgement, Quantity, Refusal};
 
 // What became of a record that was to be written: its length, or the refusal of the first stage that it fails.
-#[derive(Drop)]
+#[derive(Clone, Copy)]
 pub enum Written {
     Record { length: usize },
     Refused(Refusal),

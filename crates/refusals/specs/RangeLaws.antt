@@ -4,7 +4,7 @@ use Rattle.std.proofs.Common.{sym, ap, ap₂, ◌∙◌}
 use Rattle.formats.specs.Bytes.{impossible}
 use Rattle.formats.specs.Writes.{All}
 use Rattle.refusals.specs.Stages.{require, or_else, require-passed, or-else-passed, or-else-assoc}
-use Rattle.refusals.specs.Ranges.{Ranged, ◌fitsIf◌, first_misfit, AllFit, FirstOutside}
+use Rattle.refusals.specs.Ranges.{Ranged, ◌fits_if◌, first_misfit, AllFit, FirstOutside}
 use Rattle.refusals.specs.declared.Quantity.{Quantity}
 use Rattle.refusals.specs.declared.Refusal.TheVariants.{OutOfRange}
 use Rattle.refusals.specs.declared.Judgement.{Judgement}

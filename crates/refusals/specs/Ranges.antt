@@ -12,8 +12,8 @@ pub record Ranged : Type 0 where
   pub name : Quantity
   pub fits : Bool
 
-infix 20 ◌fitsIf◌
-abbrev pub ◌fitsIf◌ : Quantity → Bool → Ranged
+infix 20 ◌fits_if◌
+abbrev pub ◌fits_if◌ : Quantity → Bool → Ranged
 name fits_if test = record { name = name; fits = test }
 
 -- the first that does not fit is refused by its name; where all fit, none is

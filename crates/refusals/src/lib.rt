@@ -7,14 +7,14 @@ ghost use Rattle.refusals.specs.Table.{number_of, place_of, in_compact, named, r
 use formats::Failure;
 
 // The place that a refusal names, the offset of its byte; or that it names none.
-#[derive(Drop)]
+#[derive(Clone, Copy)]
 pub enum Where {
     At(usize),
     Nowhere,
 }
 
 // The numbers that a descriptor may give of its channel, in the order in which they are stored (7.3.4.2).
-#[derive(Drop)]
+#[derive(Clone, Copy)]
 pub enum AttributeName {
     Scaling,
     Minimum,
@@ -24,7 +24,7 @@ pub enum AttributeName {
 }
 
 // Which number was out of its range (request L2), or did not fit the compact format (request L4).
-#[derive(Drop)]
+#[derive(Clone, Copy)]
 pub enum Quantity {
     Attribute { channel: usize, name: AttributeName }, // of a channel's descriptor
     Count, // of points
@@ -37,7 +37,7 @@ pub enum Quantity {
 }
 
 // The table, in the order of its numbers: document 01's, 1 to 18, request L3's, 20, and request L4's, 21.
-#[derive(Drop)]
+#[derive(Clone, Copy)]
 pub enum Refusal {
     Short,
     Identifier { place: usize },
@@ -62,7 +62,7 @@ pub enum Refusal {
 }
 
 // What one stage of judging says.
-#[derive(Drop)]
+#[derive(Clone, Copy)]
 pub enum Judgement {
     Passed,
     Refused(Refusal),

@@ -65,7 +65,7 @@ pub fn put_thing(text: &mut [u8; 65536], start: u16, mark: u8, thing: usize) -> 
 }
 
 // One thing that is said of a channel, as `constant`, `mean=5` or, a number without its flag, `!mean=5`.
-#[derive(Drop)]
+#[derive(Clone, Copy)]
 struct Thing {
     good: bool,
     thing: usize,
@@ -150,7 +150,7 @@ fn channel_in(word: &[u8]) -> usize {
 }
 
 // A description's mark, and the place behind its word.
-#[derive(Drop)]
+#[derive(Clone, Copy)]
 pub struct Marked {
     pub mark: Format,
     pub behind: usize,

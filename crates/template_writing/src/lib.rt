@@ -11,7 +11,7 @@ use channels::{Description, Format};
 use refusals::{Quantity, Refusal};
 
 // What became of a template that was to be written: its length, or the refusal of the first stage that it fails.
-#[derive(Drop)]
+#[derive(Clone, Copy)]
 pub enum Written {
     Done(usize),
     Refused(Refusal),

@@ -13,7 +13,7 @@ use refusals::{Judgement, Refusal, Where};
 
 // What a template says: a description of channels if it has one, and the largest number of points if it names one.
 // What it doesn't have is zeros here. The description stands first, where no gap comes before it: so it is copied whole.
-#[derive(Drop)]
+#[derive(Clone, Copy)]
 pub struct Template {
     pub description: Description,
     pub described: bool,
@@ -22,7 +22,7 @@ pub struct Template {
 }
 
 // What was found, and the template, which is all zeros where there is none.
-#[derive(Drop)]
+#[derive(Clone, Copy)]
 pub struct Judged {
     pub verdict: Judgement,
     pub template: Template,
@@ -58,7 +58,7 @@ fn accepted(described: bool, description: Description, limited: bool, maximum: u
 }
 
 // Where a field ends, if all of it is there.
-#[derive(Drop)]
+#[derive(Clone, Copy)]
 enum End {
     At(usize),
     Missing,
@@ -110,7 +110,7 @@ fn number_of(content: &[u8]) -> u32
 }
 
 // What stands behind what is said of channels, without it: a description is long, and is handed on only where it is read.
-#[derive(Drop)]
+#[derive(Clone, Copy)]
 struct Limit {
     verdict: Judgement,
     limited: bool,

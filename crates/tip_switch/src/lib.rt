@@ -14,7 +14,7 @@ pub fn state(byte: u8) -> i32
 }
 
 // What a byte of S stands for, if anything.
-#[derive(Drop)]
+#[derive(Clone, Copy)]
 pub enum Switch {
     State(i32),
     NotAdmitted,

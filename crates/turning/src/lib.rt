@@ -151,7 +151,7 @@ fn put_points(whole: &[u8], start: usize, stored: [bool; 16], count: usize, out:
 }
 
 // What became of a record that was to be turned: how many bytes the template has and how many the body; or the refusal of the first stage that it fails.
-#[derive(Drop)]
+#[derive(Clone, Copy)]
 pub enum Turned {
     Both { template: usize, body: usize },
     Refused(Refusal),

@@ -6,7 +6,7 @@ use Rattle.formats.specs.Put.{puts}
 use Rattle.formats.specs.Lent.{Writing, writing}
 use Rattle.formats.specs.Writes.{encode_each}
 use Rattle.refusals.specs.Stages.{require, or_else}
-use Rattle.refusals.specs.Ranges.{Ranged, ◌fitsIf◌, first_misfit}
+use Rattle.refusals.specs.Ranges.{Ranged, ◌fits_if◌, first_misfit}
 use Rattle.refusals.specs.declared.Quantity.TheVariants.{Value}
 use Rattle.refusals.specs.declared.Refusal.TheVariants.{Amount}
 use Rattle.refusals.specs.declared.Judgement.{Judgement}

@@ -142,7 +142,7 @@ fn put_sample(out: &mut [u8], at: usize, channel: usize, value: i32, format: For
 }
 
 // Where the next number is put, and which value it is.
-#[derive(Drop)]
+#[derive(Clone, Copy)]
 struct Run {
     at: usize,
     index: usize,

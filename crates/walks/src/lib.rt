@@ -8,7 +8,7 @@ use record_reading::Verdict;
 use refusals::Refusal;
 
 // What stands at a place of a file. A refusal's place counts from the file's start.
-#[derive(Drop)]
+#[derive(Clone, Copy)]
 pub enum Found {
     Record {
         length: usize,
@@ -20,7 +20,7 @@ pub enum Found {
 }
 
 // What stands at a place, and the place afterwards: behind a record, or where it was.
-#[derive(Drop)]
+#[derive(Clone, Copy)]
 pub struct Step {
     pub found: Found,
     pub next: usize,
@@ -65,7 +65,7 @@ pub fn step_at(file: &[u8], place: usize) -> Step
 }
 
 // A file, and the place of the next record.
-#[derive(Drop)]
+#[derive(Clone, Copy)]
 pub struct Walker<'a> {
     pub file: &'a [u8],
     pub place: usize,

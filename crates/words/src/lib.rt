@@ -44,7 +44,7 @@ pub fn skip(text: &[u8], from: usize, mark: u8) -> usize
 }
 
 // Where a word stands: from its first byte up to the byte behind its last.
-#[derive(Drop)]
+#[derive(Clone, Copy)]
 pub struct Span {
     pub from: usize,
     pub to: usize,

@@ -1,4 +1,4 @@
--- `bodies::count_fits_lem` meets its contract: each way through the tests is one of the definition's.
+-- `bodies::count_fits` meets its contract: each way through the tests is one of the definition's.
 use borrow.Author.Tests.{eq-eqb, ne_eqb, le-leb, lt-leb}
 use Rattle.bodies.specs.Writing.{count_fits}
 use Rattle.bodies.proofs.count_fits.Statement.{statement}

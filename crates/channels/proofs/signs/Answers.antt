@@ -1,12 +1,8 @@
 -- `channels::signs` meets its contract: the prover makes the number of the sixteen signs, and it is the code's.
 use mathlib.Core.Path.{refl}
 use Rattle.formats.specs.Binary.{binary}
-use Rattle.channels.proofs.signs.Statement.{statement}
-use Rattle.channels.proofs.signs.Tie as tie
+use Rattle.channels.proofs.signs.Goals as goal
 
-returns : tie.Need-returns
+pub returns : goal.returns
 unfolding binary
 returns c = refl
-
-pub signs-spec : {M : Type 1} → statement M
-signs-spec = tie.close (tie.spec returns)

@@ -5,16 +5,12 @@ use Prim.Native.Nat.{◌/◌, ◌%◌}
 use native.Mathlib.Decide.{dec_lt}
 use native.Mathlib.Omega.{arith}
 use borrow.Author.Tests.{eq-eqb, ne_eqb, le-leb, lt-leb}
-use Rattle.channels.proofs.leads.Statement.{statement}
-use Rattle.channels.proofs.leads.Tie as tie
+use Rattle.channels.proofs.leads.Goals as goal
 
-returns : tie.Need-returns
+pub returns : goal.returns
 returns c =
     let b = c.args.bits in
     by_cases
     (dec_lt b 32768)
     (λ q. lt-leb 32768 b q ∙ sym (ne_eqb (b / 32768 % 2) 1 (λ e. omega arith)))
     (λ q. le-leb 32768 b (omega arith) ∙ sym (eq-eqb (b / 32768 % 2) 1 (omega arith)))
-
-pub leads-spec : {M : Type 1} → statement M
-leads-spec = tie.close (tie.spec returns)
