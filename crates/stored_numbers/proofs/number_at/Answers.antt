@@ -29,7 +29,7 @@ module _ (c : Else-bytes-width-2) where
   room e = omega (arith, there, ap width_of e)
 
 pub bounds-bytes-at : goal.bounds-bytes-at
-bounds-bytes-at c = let e = (goal.at.bounds-bytes-at c).In-Full in omega (arith, room (goal.at.In-Full e).Else-bytes-width-2 e.enum_told-1.given.1)
+bounds-bytes-at c = let e = (goal.at.bounds-bytes-at c).In-Full in omega (arith, room (goal.at.In-Full e).Else-bytes-width-2 e.in-Full.is)
 
 pub bounds-bytes-at-in-Full : goal.bounds-bytes-at-in-Full
 bounds-bytes-at-in-Full c = let e = (goal.at.bounds-bytes-at-in-Full c).In-Full in omega (arith, room (goal.at.In-Full e).Else-bytes-width-2 e.in-Full.is)

@@ -31,7 +31,7 @@ module _ (c : Else-out-width-2) where
   room e = omega (arith, there, ap width_of e)
 
 pub bounds-out-at : goal.bounds-out-at
-bounds-out-at c = let e = (goal.at.bounds-out-at c).In-Full in omega (arith, room (goal.at.In-Full e).Else-out-width-2 e.enum_told-1.given.1)
+bounds-out-at c = let e = (goal.at.bounds-out-at c).In-Full in omega (arith, room (goal.at.In-Full e).Else-out-width-2 e.in-Full.is)
 
 pub bounds-out-at-in-Full : goal.bounds-out-at-in-Full
 bounds-out-at-in-Full c = let e = (goal.at.bounds-out-at-in-Full c).In-Full in simp length-set (omega (arith, room (goal.at.In-Full e).Else-out-width-2 e.in-Full.is))
