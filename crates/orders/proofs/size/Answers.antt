@@ -1,6 +1,6 @@
 -- `orders::size` meets its contract. The invariant: all that are stored are those counted and those left.
 use mathlib.Core.Path.{◌≡◌}
-use Prim.Native.Nat.{◌<◌, ◌-◌}
+use Prim.Native.Nat.{◌<◌}
 use native.Mathlib.Omega.{arith}
 use borrow.Author.Rules.{rules}
 use lib.ListN.{length}
@@ -33,8 +33,8 @@ loop-i-preserved c =
     let h : l.loop-i.i < length stored = omega (arith, sixteen (goal.at.At-loop-i l).Start) in
     let q = l.loop-i.invariant.2 in
     elim c.if-stored-i.branch [
-      then-stored-i w ↦ rw w.n-is (omega arith, omega arith, omega (arith, q, many-in stored l.loop-i.i h w.if-stored-i.true))
-    | else-stored-i w ↦ rw w.n-is (omega arith, omega arith, omega (arith, q, many-out stored l.loop-i.i h w.if-stored-i.false))
+      | then-stored-i w ↦ rw w.n-is (omega arith, omega arith, omega (arith, q, many-in stored l.loop-i.i h w.if-stored-i.true))
+      | else-stored-i w ↦ rw w.n-is (omega arith, omega arith, omega (arith, q, many-out stored l.loop-i.i h w.if-stored-i.false))
     ]
 
 pub returns : goal.returns
