@@ -11,13 +11,13 @@ use borrow.Author.Tests.{ne_eqb}
 use lib.ListN.{length, get_or, drop, drop_of_length-le}
 use lib.Seq.{drop-cons}
 use Rattle.formats.specs.Bytes.{impossible}
-use Rattle.formats.specs.Reader.{each, times, one}
-use Rattle.formats.specs.Number.{number, at-number}
+use Rattle.formats.specs.Reader.{each, times}
+use Rattle.formats.specs.Number.{at-number}
 use Rattle.formats.specs.Told.{told}
 use Rattle.formats.specs.Writes.{All}
 use Rattle.formats.specs.Jump.{Jumps, ends_there, ends-short, jumps-done, jumps-bind, jumps-map, jumps-times}
 use Rattle.channels.specs.Channel.{S}
-use Rattle.points.specs.Points.{switch, sample, point, stored_from, channels, sample_size, widths, width}
+use Rattle.points.specs.Points.{sample, point, stored_from, channels, sample_size, widths, width}
 use Rattle.points.specs.SampleLaws.{Wide, wide_short, wide_ok}
 
 -- ---- The channels from i on

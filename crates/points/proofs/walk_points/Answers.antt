@@ -1,6 +1,6 @@
 -- `points::walk_points` meets its contract. The invariant: the steps left from the next point end as all of them do from the start.
 use mathlib.Core.Path.{◌≡◌, sym, subst, ◌∙◌}
-use Prim.Native.Nat.{ℕ, ◌≤◌, ◌-◌, ◌+◌, ◌*◌}
+use Prim.Native.Nat.{ℕ, ◌≤◌, ◌+◌, ◌*◌}
 use native.Mathlib.Nat.{sub-zero, mul-le-mul_right}
 use native.Mathlib.Omega.{arith}
 use lib.ListN.{length}
@@ -36,8 +36,8 @@ module _ (t : In-loop-i) where
       omega (
         arith,
         turn.whole_points-whole.ensures.1,
-        mul-le-mul_right {m = turn.loop-i.i + 1} {n = turn.whole_points-whole.result} start.args.width (omega (arith, t.loop-i-test.taken)),
-        start.pre.0,
+        mul-le-mul_right {m = turn.loop-i.i + 1} {n = turn.whole_points-whole.result} start.args.width (omega (arith, t.loop-i-test.true)),
+        start.requires.0,
       )
 
 pub bounds-bytes-switch : goal.bounds-bytes-switch
@@ -48,11 +48,11 @@ returns-in_default c =
     let x = (goal.at.returns-in_default c).After-state_of-state in
     let t = (goal.at.After-state_of-state x).In-loop-i in
     let z = (turn t).loop-i.invariant.1 in
-    let f = state-refused _ (sym x.state_of-state.ensures ∙ c.enum_told-in_default-1.given.1) in
+    let f = state-refused _ (sym x.state_of-state.ensures ∙ c.in_default.is) in
     rw z
     (sym
     ((turn t).loop-i.invariant.2
-    ∙ repeated-failed _ _ _ _ (omega (arith, t.loop-i-test.true, (turn t).before.whole_points-whole.ensures.0)) (switched-bad _ _ _ _ (omega (arith, there t)) (rw z at f))))
+    ∙ repeated-failed _ _ _ _ (omega (arith, t.loop-i-test.true, (turn t).whole_points-whole.ensures.0)) (switched-bad _ _ _ _ (omega (arith, there t)) (rw z at f))))
 
 pub overflow_add-switch-in-loop-i : goal.overflow_add-switch-in-loop-i
 overflow_add-switch-in-loop-i c = let t = (goal.at.overflow_add-switch-in-loop-i c).In-loop-i in record { fits = omega (arith, (turn t).loop-i.invariant.1, there t) }
@@ -68,12 +68,12 @@ loop-i-preserved c =
     let x = (goal.at.loop-i-preserved c).After-state_of-state in
     let t = (goal.at.After-state_of-state x).In-loop-i in
     let z = (turn t).loop-i.invariant.1 in
-    let f = state-found _ (sym x.state_of-state.ensures ∙ c.enum_told-1.given.1) in
+    let f = state-found _ (sym x.state_of-state.ensures ∙ c.in-State.is) in
     let a = (start t).args in
     let e : switched a.bytes.now (at t) a.width a.offset ≡ Done (at t + a.width) =
     switched-ends a.bytes.now (at t) a.width a.offset (omega (arith, there t, (start t).requires.1)) (rw z at f.0) ∙ ends_there a.bytes.now (at t) a.width (there t) in
     let y : at t + a.width ≡ a.start + ((turn t).loop-i.i + 1) * a.width = omega arith in
-    (omega arith, omega (arith, z), rw (← y) ((turn t).loop-i.invariant.2 ∙ repeated-done _ _ _ _ (omega (arith, t.loop-i-test.true, (turn t).before.whole_points-whole.ensures.0)) e))
+    (omega arith, omega (arith, z), rw (← y) ((turn t).loop-i.invariant.2 ∙ repeated-done _ _ _ _ (omega (arith, t.loop-i-test.true, (turn t).whole_points-whole.ensures.0)) e))
 
 -- behind the whole points
 module _ (c : After-loop-i) where
@@ -93,7 +93,7 @@ module _ (c : After-loop-i) where
   left = let a = all.args in subst (Left a.bytes.now a.start a.width a.offset a.count) passed last.loop-i.invariant.2
 
   within : all.args.start + whole * all.args.width ≤ length all.args.bytes.now
-  within = omega (arith, last.whole_points-whole.ensures.1, all.pre.0)
+  within = omega (arith, last.whole_points-whole.ensures.1, all.requires.0)
 
 pub overflow_mul-end : goal.overflow_mul-end
 overflow_mul-end c = record { fits = omega (arith, within c) }
@@ -108,7 +108,7 @@ pub returns-then-whole-count : goal.returns-then-whole-count
 returns-then-whole-count c =
     let t = (goal.at.returns-then-whole-count c).Then-whole-count in
     let e = (goal.at.Then-whole-count t).After-loop-i in
-    let h = (last e).before.whole_points-whole.ensures.2 t.if-whole-count.true in
+    let h = (last e).whole_points-whole.ensures.2 t.if-whole-count.true in
     sym (left e ∙ repeated-failed _ _ _ _ (omega (arith, t.if-whole-count.true)) (sym (c.cut.ensures (all e).args.width (omega (arith, h)))))
 
 pub returns : goal.returns

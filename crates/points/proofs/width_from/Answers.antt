@@ -1,14 +1,13 @@
 -- `points::width_from` meets its contract. The invariant: the whole width is what was gathered and what the channels left have.
 use mathlib.Core.Path.{◌≡◌}
-use mathlib.Core.Logic.{⊎_elim}
-use Prim.Native.Nat.{◌<◌, ◌-◌}
+use Prim.Native.Nat.{◌<◌}
 use native.Mathlib.Omega.{arith}
 use borrow.Author.Rules.{rules}
 use lib.ListN.{length}
 use Rattle.channels.specs.Channel.{width_of}
 use Rattle.points.proofs.Samples.{width-out, width-in, width-none}
 use Rattle.points.proofs.width_from.Goals as goal
-use Rattle.points.proofs.width_from.Goals.{At-loop-i, Start}
+use Rattle.points.proofs.width_from.Goals.{At-loop-i, Start, then-stored-i, else-stored-i}
 
 sixteen : (s : Start) → length s.args.stored ≡ 16
 sixteen s = search rules
@@ -32,13 +31,13 @@ loop-i-preserved c =
     let n = width_of l.args.format in
     let h : l.loop-i.i < length stored = omega (arith, sixteen (goal.at.At-loop-i l).Start) in
     let q = l.loop-i.invariant.3 in
-    ⊎_elim
-    (λ w.
-    let e = width-in n stored l.loop-i.i h w.0.taken in
-    let z = w.1.ensures in
-    rw w.2 (omega arith, omega (arith, z.1), omega arith, omega (arith, q, e, z.0)))
-    (λ w. rw w.1 (omega arith, omega arith, omega arith, omega (arith, q, width-out n stored l.loop-i.i h w.0.left)))
-    c.if-stored-i.branch
+    elim c.if-stored-i.branch [
+      | then-stored-i w ↦
+          let e = width-in n stored l.loop-i.i h w.if-stored-i.true in
+          let z = w.sample_size-w.ensures in
+          rw w.w-is (omega arith, omega (arith, z.1), omega arith, omega (arith, q, e, z.0))
+      | else-stored-i w ↦ rw w.w-is (omega arith, omega arith, omega arith, omega (arith, q, width-out n stored l.loop-i.i h w.if-stored-i.false))
+    ]
 
 pub returns : goal.returns
 returns c =
