@@ -4,14 +4,10 @@ use mathlib.Core.Bool.{◌||◌}
 use borrow.Author.Rules.{rules}
 use Rattle.descriptions.specs.Description.{tidy_attribute}
 use Rattle.description_judging.proofs.Judging.{zero_bits}
-use Rattle.description_judging.proofs.tidy_attribute.Statement.{statement}
-use Rattle.description_judging.proofs.tidy_attribute.Tie as tie
+use Rattle.description_judging.proofs.tidy_attribute.Goals as goal
 
-returns : tie.Need-returns
+pub returns : goal.returns
 unfolding tidy_attribute
 returns c =
-    let a = c.before.before.before.args.attribute in
+    let a = c.args.attribute in
     ap (λ t. a.given || t) (zero_bits a.number (search rules))
-
-pub tidy-attribute-spec : {M : Type 1} → statement M
-tidy-attribute-spec = tie.close (tie.spec returns)
