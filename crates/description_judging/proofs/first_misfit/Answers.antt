@@ -4,7 +4,7 @@ use Prim.Native.Nat.{◌+◌, ◌<◌, ◌-◌}
 use native.Mathlib.Omega.{arith}
 use borrow.Author.Rules.{rules}
 use lib.Dec.{T}
-use lib.ListN.{length, drop, get_or, length-map}
+use lib.ListN.{length, drop, get_or}
 use Rattle.refusals.specs.Stages.{or_else}
 use Rattle.refusals.specs.Ranges.{first_misfit}
 use Rattle.refusals.specs.declared.Judgement.{Judgement}
@@ -17,7 +17,7 @@ use Rattle.description_judging.proofs.first_misfit.Goals as goal
 use Rattle.description_judging.proofs.first_misfit.Goals.{After-judge_numbers-judged, At-loop-i, In-loop-i, Start}
 
 sixteen : (s : Start) → length s.args.description.channels ≡ 16
-sixteen s = simp length-map at s.well_formed.0.1.1.0.1.0.1
+sixteen s = s.well_formed.0.1.1.0.1.0.1
 
 pub loop-i-init : goal.loop-i-init
 unfolding neat numbers
@@ -55,7 +55,7 @@ pub loop-i-preserved : goal.loop-i-preserved
 unfolding or_else
 loop-i-preserved c =
     let x = (goal.at.loop-i-preserved c).After-judge_numbers-judged in
-    (search rules, (tidied (goal.at.After-judge_numbers-judged x).In-loop-i).1, judged (goal.at.After-judge_numbers-judged x).In-loop-i (sym x.judge_numbers-judged.ensures ∙ c.enum_told-in_default-1.given.1))
+    (search rules, (tidied (goal.at.After-judge_numbers-judged x).In-loop-i).1, judged (goal.at.After-judge_numbers-judged x).In-loop-i (sym x.judge_numbers-judged.ensures ∙ c.in_default.is))
 
 pub returns : goal.returns
 returns c =

@@ -3,14 +3,14 @@ use mathlib.Core.Path.{◌≡◌, sym, ◌∙◌}
 use Prim.Native.Nat.{◌-◌}
 use native.Mathlib.Omega.{arith}
 use borrow.Author.Rules.{rules}
-use lib.ListN.{length, length-map}
+use lib.ListN.{length}
 use Rattle.descriptions.specs.Description.{tidy_descriptor, neat}
 use Rattle.description_judging.proofs.Judging.{every-none, every-fails, every-passes}
 use Rattle.description_judging.proofs.is_neat.Goals as goal
 use Rattle.description_judging.proofs.is_neat.Goals.{After-tidy_descriptor, At-loop-i, Start}
 
 sixteen : (s : Start) → length s.args.description.channels ≡ 16
-sixteen s = simp length-map at s.well_formed.0.1.1.0.1.0.1
+sixteen s = s.well_formed.0.1.1.0.1.0.1
 
 pub loop-i-init : goal.loop-i-init
 unfolding neat

@@ -3,7 +3,7 @@ use mathlib.Core.Path.{◌≡◌, sym, ◌∙◌}
 use Prim.Native.Nat.{◌-◌}
 use native.Mathlib.Omega.{arith}
 use borrow.Author.Rules.{rules}
-use lib.ListN.{length, get_or, length-map}
+use lib.ListN.{length, get_or}
 use Rattle.channels.specs.BitLaws.{moved_on, signs-none, sign-first}
 use Rattle.channels.specs.Channel.{width_of}
 use Rattle.channels.specs.Descriptors.{absent}
@@ -14,7 +14,7 @@ use Rattle.description_judging.proofs.is_sound.Goals as goal
 use Rattle.description_judging.proofs.is_sound.Goals.{After-sound_descriptor, At-loop-i, Else-not-sound_descriptor, Start}
 
 sixteen : (s : Start) → length s.args.description.channels ≡ 16
-sixteen s = simp length-map at s.well_formed.0.1.1.0.1.0.1
+sixteen s = s.well_formed.0.1.1.0.1.0.1
 
 pub loop-i-init : goal.loop-i-init
 unfolding neat all_fit

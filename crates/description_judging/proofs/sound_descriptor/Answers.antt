@@ -1,6 +1,5 @@
 -- `description_judging::sound_descriptor` meets its contract: what it asks in turn is both tests of each attribute, and so the first of all and the second of all.
 use mathlib.Core.Path.{◌≡◌, refl, sym, ap, ◌∙◌}
-use mathlib.Core.Logic.{⊎_elim}
 use mathlib.Core.Bool.{false, ◌||◌}
 use Prim.Native.Nat.{ℕ, ◌-◌, ◌^◌}
 use native.Mathlib.Omega.{arith}
@@ -13,15 +12,15 @@ use Rattle.channels.specs.Stored.{offset, value_of}
 use Rattle.descriptions.specs.Description.{flagless}
 use Rattle.description_judging.proofs.Judging.{to_scaling, to_minimum, to_maximum, to_mean, to_deviation, all_asked, asked, not-asked, largest-deviation}
 use Rattle.description_judging.proofs.sound_descriptor.Goals as goal
-use Rattle.description_judging.proofs.sound_descriptor.Goals.{After-sound_attribute, After-value_of-least, After-value_of-most, Else-d, Joined-sound_attribute, Joined-sound_attribute-2, Joined-sound_attribute-3, Joined-sound_attribute-4, Start, Then-sound_attribute-5}
+use Rattle.description_judging.proofs.sound_descriptor.Goals.{After-largest-largest, After-sound_attribute, After-value_of-most, Else-d, Joined-sound_attribute, Joined-sound_attribute-2, Joined-sound_attribute-3, Joined-sound_attribute-4, Start, Then-sound_attribute-5, then-sound_attribute, else-sound_attribute, then-sound_attribute-2, else-sound_attribute-2, then-sound_attribute-3, else-sound_attribute-3, then-sound_attribute-4, else-sound_attribute-4}
 
 -- the bounds of a minimum, a maximum and a mean
 module _ (channel : ℕ) (c : After-value_of-most) (h : c.args.signed ≡ signed_of channel) where
   abbrev width : ℕ
   width = width_of c.args.format
 
-  least : to_z w32 (of_z w32 c.value_of_lem.result) ≡ value_of width (signed_of channel) 0
-  least = to_z-of_z w32 c.value_of_lem.result (search rules) ∙ c.value_of_lem.ensures ∙ rw h
+  least : to_z w32 (of_z w32 c.value_of-least.result) ≡ value_of width (signed_of channel) 0
+  least = to_z-of_z w32 c.value_of-least.result (search rules) ∙ c.value_of-least.ensures ∙ rw h
 
   most : to_z w32 (of_z w32 c.value_of-most.result) ≡ value_of width (signed_of channel) (256 ^ width - 1)
   most = to_z-of_z w32 c.value_of-most.result (search rules) ∙ c.value_of-most.ensures ∙ rw (h, c.largest-largest.ensures)
@@ -29,7 +28,7 @@ module _ (channel : ℕ) (c : After-value_of-most) (h : c.args.signed ≡ signed
 -- what was asked up to each attribute
 module _ (c : After-sound_attribute) where
   abbrev start : Start
-  start = (goal.at.Joined-sound_attribute-4 c).After-sound_attribute
+  start = (goal.at.After-sound_attribute c).Start
 
   scaling-asked : c.sound_attribute.result ≡ to_scaling start.args.d
   unfolding value_of offset
@@ -40,41 +39,53 @@ module _ (channel : ℕ) where
   Signed c = (start c).args.signed ≡ signed_of channel
 
   abbrev Minimum : Joined-sound_attribute → Type 0
-  Minimum c = c.if-sound_attribute.if-sound_attribute-2 ≡ to_minimum (width_of (start (goal.at.Joined-sound_attribute-4 c).Joined-sound_attribute-3).args.format) channel (start (goal.at.Joined-sound_attribute-4 c).Joined-sound_attribute-3).args.d
+  Minimum c = c.if-sound_attribute.value ≡ to_minimum (width_of (start (goal.at.Joined-sound_attribute c).After-sound_attribute).args.format) channel (start (goal.at.Joined-sound_attribute c).After-sound_attribute).args.d
 
-  minimum-asked : (c : Joined-sound_attribute) → Signed (goal.at.Joined-sound_attribute-4 c).Joined-sound_attribute-3 → Minimum c
+  minimum-asked : (c : Joined-sound_attribute) → Signed (goal.at.Joined-sound_attribute c).After-sound_attribute → Minimum c
   minimum-asked c h =
-      let e = scaling-asked (goal.at.Joined-sound_attribute-4 c).Joined-sound_attribute-3 in
-      let v = (goal.at.Joined-sound_attribute-4 c).Joined-sound_attribute-2 in
-      ⊎_elim {C = Minimum c} (λ w. w.2 ∙ asked e w.0.taken (w.1.ensures _ _ (least channel v h) (most channel v h))) (λ w. w.1 ∙ not-asked e _ w.0.left) c.if-sound_attribute.branch
+      let e = scaling-asked (goal.at.Joined-sound_attribute c).After-sound_attribute in
+      let v = (goal.at.Joined-sound_attribute c).After-value_of-most in
+      elim c.if-sound_attribute.branch as (λ _. Minimum c) [
+        then-sound_attribute w ↦ w.value-is ∙ asked e w.if-sound_attribute.true (w.sound_attribute-then-sound_attribute.ensures _ _ (least channel v h) (most channel v h))
+      | else-sound_attribute w ↦ w.value-is ∙ not-asked e _ w.if-sound_attribute.false
+      ]
 
   abbrev Maximum : Joined-sound_attribute-2 → Type 0
-  Maximum c = c.if-sound_attribute-2.if-sound_attribute-3 ≡ to_maximum (width_of (start (goal.at.Joined-sound_attribute-4 c).Joined-sound_attribute-2).args.format) channel (start (goal.at.Joined-sound_attribute-4 c).Joined-sound_attribute-2).args.d
+  Maximum c = c.if-sound_attribute-2.value ≡ to_maximum (width_of (start (goal.at.Joined-sound_attribute-2 c).After-sound_attribute).args.format) channel (start (goal.at.Joined-sound_attribute-2 c).After-sound_attribute).args.d
 
-  maximum-asked : (c : Joined-sound_attribute-2) → Signed (goal.at.Joined-sound_attribute-4 c).Joined-sound_attribute-2 → Maximum c
+  maximum-asked : (c : Joined-sound_attribute-2) → Signed (goal.at.Joined-sound_attribute-2 c).After-sound_attribute → Maximum c
   maximum-asked c h =
-      let e = minimum-asked (goal.at.Joined-sound_attribute-4 c).Joined-sound_attribute-3 h in
-      let v = (goal.at.Joined-sound_attribute-4 c).Joined-sound_attribute in
-      ⊎_elim {C = Maximum c} (λ w. w.2 ∙ asked e w.0.taken (w.1.ensures _ _ (least channel v h) (most channel v h))) (λ w. w.1 ∙ not-asked e _ w.0.left) c.if-sound_attribute-2.branch
+      let e = minimum-asked (goal.at.Joined-sound_attribute-2 c).Joined-sound_attribute h in
+      let v = (goal.at.Joined-sound_attribute-2 c).After-value_of-most in
+      elim c.if-sound_attribute-2.branch as (λ _. Maximum c) [
+        then-sound_attribute-2 w ↦ w.value-is ∙ asked e w.if-sound_attribute-2.true (w.sound_attribute-then-sound_attribute-2.ensures _ _ (least channel v h) (most channel v h))
+      | else-sound_attribute-2 w ↦ w.value-is ∙ not-asked e _ w.if-sound_attribute-2.false
+      ]
 
   abbrev Mean : Joined-sound_attribute-3 → Type 0
-  Mean c = c.if-sound_attribute-3.if-sound_attribute-4 ≡ to_mean (width_of (start (goal.at.Joined-sound_attribute-4 c).Joined-sound_attribute).args.format) channel (start (goal.at.Joined-sound_attribute-4 c).Joined-sound_attribute).args.d
+  Mean c = c.if-sound_attribute-3.value ≡ to_mean (width_of (start (goal.at.Joined-sound_attribute-3 c).After-sound_attribute).args.format) channel (start (goal.at.Joined-sound_attribute-3 c).After-sound_attribute).args.d
 
-  mean-asked : (c : Joined-sound_attribute-3) → Signed (goal.at.Joined-sound_attribute-4 c).Joined-sound_attribute → Mean c
+  mean-asked : (c : Joined-sound_attribute-3) → Signed (goal.at.Joined-sound_attribute-3 c).After-sound_attribute → Mean c
   mean-asked c h =
-      let e = maximum-asked (goal.at.Joined-sound_attribute-4 c).Joined-sound_attribute-3 h in
-      let v = (goal.at.Joined-sound_attribute-4 c).After-sound_attribute in
-      ⊎_elim {C = Mean c} (λ w. w.2 ∙ asked e w.0.taken (w.1.ensures _ _ (least channel v h) (most channel v h))) (λ w. w.1 ∙ not-asked e _ w.0.left) c.if-sound_attribute-3.branch
+      let e = maximum-asked (goal.at.Joined-sound_attribute-3 c).Joined-sound_attribute-2 h in
+      let v = (goal.at.Joined-sound_attribute-3 c).After-value_of-most in
+      elim c.if-sound_attribute-3.branch as (λ _. Mean c) [
+        then-sound_attribute-3 w ↦ w.value-is ∙ asked e w.if-sound_attribute-3.true (w.sound_attribute-then-sound_attribute-3.ensures _ _ (least channel v h) (most channel v h))
+      | else-sound_attribute-3 w ↦ w.value-is ∙ not-asked e _ w.if-sound_attribute-3.false
+      ]
 
   abbrev Deviation : Joined-sound_attribute-4 → Type 0
-  Deviation c = c.if-sound_attribute-4.if-sound_attribute-5 ≡ to_deviation (width_of (start (goal.at.Joined-sound_attribute-4 c).After-sound_attribute).args.format) channel (start (goal.at.Joined-sound_attribute-4 c).After-sound_attribute).args.d
+  Deviation c = c.if-sound_attribute-4.value ≡ to_deviation (width_of (start (goal.at.Joined-sound_attribute-4 c).After-sound_attribute).args.format) channel (start (goal.at.Joined-sound_attribute-4 c).After-sound_attribute).args.d
 
   deviation-asked : (c : Joined-sound_attribute-4) → Signed (goal.at.Joined-sound_attribute-4 c).After-sound_attribute → Deviation c
   unfolding value_of offset
   deviation-asked c h =
       let e = mean-asked (goal.at.Joined-sound_attribute-4 c).Joined-sound_attribute-3 h in
-      let l = (goal.at.Joined-sound_attribute-4 c).After-value_of-least in
-      ⊎_elim {C = Deviation c} (λ w. w.2 ∙ asked e w.0.taken (w.1.ensures _ false refl (largest-deviation _ _ (omega arith) l.largest-largest.ensures))) (λ w. w.1 ∙ not-asked e _ w.0.left) c.if-sound_attribute-4.branch
+      let l = (goal.at.Joined-sound_attribute-4 c).After-largest-largest in
+      elim c.if-sound_attribute-4.branch as (λ _. Deviation c) [
+        then-sound_attribute-4 w ↦ w.value-is ∙ asked e w.if-sound_attribute-4.true (w.sound_attribute-then-sound_attribute-4.ensures _ false refl (largest-deviation _ _ (omega arith) l.largest-largest.ensures))
+      | else-sound_attribute-4 w ↦ w.value-is ∙ not-asked e _ w.if-sound_attribute-4.false
+      ]
 
 pub returns-then-d : goal.returns-then-d
 returns-then-d c channel h =
