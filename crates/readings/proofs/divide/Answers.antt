@@ -13,8 +13,8 @@ use mir.Facts.{to_z-of_z, to_z_pos}
 use Rattle.calibration.proofs.Tested.{read}
 use Rattle.readings.specs.Thousandths.{numerator, denominator, thousandths}
 use Rattle.readings.proofs.Held.{fits-as, read_as, size-product, product-fits}
-use Rattle.readings.proofs.divide.Statement.{statement}
-use Rattle.readings.proofs.divide.Tie as tie
+use Rattle.readings.proofs.divide.Goals as goal
+use Rattle.readings.proofs.divide.Goals.{After-denominator_of-denominator, Start}
 
 -- ---- The numerator and the denominator of what is in its ranges
 
@@ -36,33 +36,30 @@ denominator-small e f he hf = (mul-pos (omega arith) (pow_pos e), lt_of_lt_of_le
 
 -- ---- The needs
 
-denominator-of-requires : tie.Need-denominator-of-requires
-denominator-of-requires c κs = (c.requires.exponent, c.requires.fraction)
+pub denominator_of-denominator-requires : goal.denominator_of-denominator-requires
+denominator_of-denominator-requires c = (c.requires.exponent, c.requires.fraction)
 
 -- what the call finds
-over : (c : tie.After-denominator-of) → (0 < c.denominator-of.result) × (c.denominator-of.result < 2 ^ 63)
-over c = rw c.denominator-of.ensures (denominator-small _ _ c.before.requires.exponent c.before.requires.fraction)
+over : (c : After-denominator_of-denominator) → (0 < c.denominator_of-denominator.result) × (c.denominator_of-denominator.result < 2 ^ 63)
+over c = rw c.denominator_of-denominator.ensures (denominator-small _ _ c.requires.exponent c.requires.fraction)
 
-under : (c : tie.After-denominator-of) → Numerator c.before.args.raw
-under c = let s = c.before in numerator-of s.args.raw s.ranges.raw s.requires.size
+under : (c : After-denominator_of-denominator) → Numerator c.args.raw
+under c = let s = (goal.at.After-denominator_of-denominator c).Start in numerator-of s.args.raw s.ranges.raw s.requires.size
 
-cast-denominator : tie.Need-overflow-cast-denominator
-cast-denominator c = record { sfits = (over c).1 }
+pub overflow_cast-denominator : goal.overflow_cast-denominator
+overflow_cast-denominator c = record { sfits = (over c).1 }
 
-mul-thousandfold : tie.Need-overflow-mul-thousandfold
-mul-thousandfold c = (under c).thousandfold
+pub overflow_mul-thousandfold : goal.overflow_mul-thousandfold
+overflow_mul-thousandfold c = (under c).thousandfold
 
-mul-divide-nearest : tie.Need-overflow-mul-divide-nearest
-mul-divide-nearest c = (under c).whole
+pub overflow_mul-thousandfold-2 : goal.overflow_mul-thousandfold-2
+overflow_mul-thousandfold-2 c = (under c).whole
 
-divide-nearest-requires : tie.Need-divide-nearest-requires
-divide-nearest-requires c κs = rw (to_z_pos w64 (over c).1) (record { lt = lt→ltb 0 _ (over c).0 })
+pub divide_nearest-requires : goal.divide_nearest-requires
+divide_nearest-requires c = rw (to_z_pos w64 (over c).1) (record { lt = lt→ltb 0 _ (over c).0 })
 
-returns : tie.Need-returns
+pub returns : goal.returns
 unfolding thousandths
 returns c =
-    let b = c.before in
-    to_z-of_z (sfits_of {w = w64} c.divide-nearest.type-inv) ∙ c.divide-nearest.ensures ∙ rw ((under b).is, to_z_pos w64 (over b).1, b.denominator-of.ensures)
-
-pub divide-spec : {M : Type 1} → statement M
-divide-spec = tie.close (tie.spec denominator-of-requires cast-denominator mul-thousandfold mul-divide-nearest divide-nearest-requires returns)
+    let b = (goal.at.returns c).After-denominator_of-denominator in
+    to_z-of_z (sfits_of {w = w64} c.divide_nearest.type_inv) ∙ c.divide_nearest.ensures ∙ rw ((under b).is, to_z_pos w64 (over b).1, b.denominator_of-denominator.ensures)

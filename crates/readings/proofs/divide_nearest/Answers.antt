@@ -14,8 +14,8 @@ use mir.Facts.{to_z-of_z}
 use Rattle.readings.specs.Thousandths.{half_up, nearest}
 use Rattle.calibration.proofs.Tested.{read}
 use Rattle.readings.proofs.Held.{minus, pos-fits, minus-fits, fits-as, read_as}
-use Rattle.readings.proofs.divide_nearest.Statement.{statement}
-use Rattle.readings.proofs.divide_nearest.Tie as tie
+use Rattle.readings.proofs.divide_nearest.Goals as goal
+use Rattle.readings.proofs.divide_nearest.Goals.{Start}
 
 -- ---- The sizes
 
@@ -132,50 +132,47 @@ divides (negsuc a) (pos D) nf df p =
 
 -- ---- The needs
 
-starts : (c : tie.Start) → (0 < of_z w64 c.args.d) × SFits w64 (Q c.args.n c.args.d)
+starts : (c : Start) → (0 < of_z w64 c.args.d) × SFits w64 (Q c.args.n c.args.d)
 starts c = divides c.args.n c.args.d c.ranges.n c.ranges.d c.requires
 
 -- the facts of each branch
-lower : (c : tie.Start) → lt_z (read c.args.n) (pos 0) ≡ true → Below c.args.n c.args.d
+lower : (c : Start) → lt_z (read c.args.n) (pos 0) ≡ true → Below c.args.n c.args.d
 lower c t = below c.args.n c.args.d c.ranges.n c.ranges.d c.requires t
 
-upper : (c : tie.Start) → lt_z (read c.args.n) (pos 0) ≡ false → Above c.args.n c.args.d
+upper : (c : Start) → lt_z (read c.args.n) (pos 0) ≡ false → Above c.args.n c.args.d
 upper c t = above c.args.n c.args.d c.ranges.n c.ranges.d c.requires t
 
-div-q : tie.Need-nonzero-div-q
-div-q c = starts c
+pub nonzero_div-q : goal.nonzero_div-q
+nonzero_div-q c = starts c
 
-rem-r : tie.Need-nonzero-rem-r
-rem-r c = starts c
+pub nonzero_rem-r : goal.nonzero_rem-r
+nonzero_rem-r c = starts c
 
-add-if2 : tie.Need-overflow-add-if2
-add-if2 c = (lower c.before c.if1.true).x_fits
+pub overflow_add-d : goal.overflow_add-d
+overflow_add-d c = (lower (goal.at.overflow_add-d c).Start c.if-n-lt0.true).x_fits
 
-sub-if2 : tie.Need-overflow-sub-if2
-sub-if2 c = (lower c.before c.if1.true).y-fits
+pub overflow_sub-r : goal.overflow_sub-r
+overflow_sub-r c = (lower (goal.at.overflow_sub-r c).Start c.if-n-lt0.true).y-fits
 
-sub-if3 : tie.Need-overflow-sub-if3
-sub-if3 c = (upper c.before c.if1.false).x_fits
+pub overflow_sub-d : goal.overflow_sub-d
+overflow_sub-d c = (upper (goal.at.overflow_sub-d c).Start c.if-n-lt0.false).x_fits
 
 -- less than half of d remains
-returns-2 : tie.Need-returns-2
-returns-2 c = (lower c.before.before c.before.if1.true).stay c.if2.false
+pub returns-else-d-r : goal.returns-else-d-r
+returns-else-d-r c = (lower (goal.at.returns-else-d-r c).Start c.if-n-lt0.true).stay c.if-d-r.false
 
-returns-4 : tie.Need-returns-4
-returns-4 c = (upper c.before.before c.before.if1.false).stay c.if3.false
+pub returns-else-d-r-2 : goal.returns-else-d-r-2
+returns-else-d-r-2 c = (upper (goal.at.returns-else-d-r-2 c).Start c.if-n-lt0.false).stay c.if-d-r-2.false
 
 -- half of d or more remains
-sub-result : tie.Need-overflow-sub-result
-sub-result c = (lower c.before.before c.before.if1.true).up_fits c.if2.true
+pub overflow_sub-result : goal.overflow_sub-result
+overflow_sub-result c = (lower (goal.at.overflow_sub-result c).Start c.if-n-lt0.true).up_fits c.if-d-r.true
 
-add-result : tie.Need-overflow-add-result
-add-result c = (upper c.before.before c.before.if1.false).up_fits c.if3.true
+pub overflow_add-result : goal.overflow_add-result
+overflow_add-result c = (upper (goal.at.overflow_add-result c).Start c.if-n-lt0.false).up_fits c.if-d-r-2.true
 
-returns : tie.Need-returns
-returns c = (lower c.before.before c.before.if1.true).up c.if2.true
+pub returns-then-d-r : goal.returns-then-d-r
+returns-then-d-r c = (lower (goal.at.returns-then-d-r c).Start c.if-n-lt0.true).up c.if-d-r.true
 
-returns-3 : tie.Need-returns-3
-returns-3 c = (upper c.before.before c.before.if1.false).up c.if3.true
-
-pub divide-nearest-spec : {M : Type 1} → statement M
-divide-nearest-spec = tie.close (tie.spec div-q rem-r add-if2 sub-if2 sub-result sub-if3 add-result returns returns-2 returns-3 returns-4)
+pub returns-then-d-r-2 : goal.returns-then-d-r-2
+returns-then-d-r-2 c = (upper (goal.at.returns-then-d-r-2 c).Start c.if-n-lt0.false).up c.if-d-r-2.true
