@@ -2,14 +2,12 @@
 use mathlib.Core.Path.{◌≡◌, refl}
 use mathlib.Core.List.{List}
 use mathlib.Core.Logic.{inl, inr, ⊎_elim}
-use Prim.Native.Nat.{ℕ, ◌≤◌, ◌<◌}
+use Prim.Native.Nat.{ℕ, ◌≤◌}
 use native.Mathlib.Omega.{arith}
 use lib.ListN.{length}
 use Rattle.words.specs.Places.{Word, Blank}
 use Rattle.words.proofs.Words.{lt-or-ge}
-use borrow.Author.Rules.{rules}
-use Rattle.fields.proofs.end_at.Statement.{statement}
-use Rattle.fields.proofs.end_at.Tie as tie
+use Rattle.fields.proofs.end_at.Goals as goal
 
 -- an empty word stands at the end
 ended : (line : List ℕ) (at from to : ℕ) → Word line 32 at from to → to ≤ from → length line ≤ from
@@ -22,14 +20,8 @@ ended line at from to w h =
 blank : (line : List ℕ) (at from to : ℕ) → Word line 32 at from to → to ≤ from → Blank line at
 blank line at from to w h k p q = w.begins.passed k (omega (arith, ended line at from to w h)) p
 
-next-requires : tie.Need-next-requires
-next-requires c κs = search rules
+pub returns-then-after : goal.returns-then-after
+returns-then-after c = (inr refl, (λ e. absurd (omega arith)))
 
-returns : tie.Need-returns
-returns c = (inr refl, (λ e. absurd (omega arith)))
-
-returns-2 : tie.Need-returns-2
-returns-2 c = (inl refl, (λ e. blank _ _ _ _ c.before.before.next.ensures c.if1.false))
-
-pub end-at-spec : {M : Type 1} → statement M
-end-at-spec = tie.close (tie.spec next-requires returns returns-2)
+pub returns : goal.returns
+returns c = (inl refl, (λ e. blank _ _ _ _ c.next-after.ensures c.if-after.false))

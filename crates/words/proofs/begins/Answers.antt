@@ -7,9 +7,7 @@ use lib.ListN.{length, get_or}
 use lib.Dec.{eqb}
 use native.Mathlib.Omega.{arith}
 use Rattle.words.specs.Said.{begins_with}
-use borrow.Author.Rules.{rules}
-use Rattle.words.proofs.begins.Statement.{statement}
-use Rattle.words.proofs.begins.Tie as tie
+use Rattle.words.proofs.begins.Goals as goal
 
 none : (word : List ℕ) (mark : ℕ) → length word ≡ 0 → false ≡ begins_with word mark
 unfolding begins_with
@@ -21,14 +19,8 @@ unfolding begins_with
 some [] mark h = absurd (h refl)
 some (byte ∷ bytes) mark h = refl
 
-returns : tie.Need-returns
-returns c = none c.before.args.word.now c.before.args.mark c.if1.true
+pub returns-then-word-eq0 : goal.returns-then-word-eq0
+returns-then-word-eq0 c = none c.args.word.now c.args.mark c.if-word-eq0.true
 
-shared-slice-read-result : tie.Need-shared-slice-read-result
-shared-slice-read-result c = search rules
-
-returns-2 : tie.Need-returns-2
-returns-2 c = some c.before.before.args.word.now c.before.before.args.mark c.before.if1.false
-
-pub begins-spec : {M : Type 1} → statement M
-begins-spec = tie.close (tie.spec returns shared-slice-read-result returns-2)
+pub returns : goal.returns
+returns c = some c.args.word.now c.args.mark c.if-word-eq0.false
