@@ -1,6 +1,5 @@
 -- `sayings::put_channels` puts nothing where no channel is included: each turn takes one channel more, and puts nothing for it then.
 use native.Mathlib.Omega.{arith}
-use Prim.Native.Nat.{◌-◌}
 use mathlib.Core.Path.{refl, ◌∙◌}
 use borrow.Author.Rules.{rules}
 use Rattle.sayings.proofs.put_channels.Goals as goal

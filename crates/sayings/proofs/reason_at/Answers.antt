@@ -1,5 +1,4 @@
 -- `sayings::reason_at` answers one of two reasons, and ends: each turn goes on to the next word, which begins behind this one.
-use Prim.Native.Nat.{◌-◌}
 use mathlib.Core.Path.{refl}
 use mathlib.Core.Logic.{inl, inr}
 use native.Mathlib.Omega.{arith}
