@@ -1,6 +1,6 @@
 -- `templates::number_of` meets its contract. The loop's invariant: the number is that of the bytes passed; it has room for another since there are three at most.
 use mathlib.Core.Path.{◌≡◌, refl, ◌∙◌}
-use Prim.Native.Nat.{◌<◌, ◌-◌}
+use Prim.Native.Nat.{◌<◌}
 use native.Mathlib.Numerals.{add-one}
 use native.Mathlib.Omega.{arith}
 use lib.ListN.{length}
