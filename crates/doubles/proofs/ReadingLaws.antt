@@ -10,10 +10,10 @@ use Rattle.doubles.specs.Double.{minus, exponent}
 use Rattle.doubles.specs.Nearest.{Nearest}
 use Rattle.doubles.specs.Quotient.{bits_of, negative, quotient, Quotient}
 use Rattle.doubles.specs.Reading.{Exactly, IsNumber}
-use Rattle.doubles.specs.ValueLaws.{is-sized}
-use Rattle.doubles.specs.OperandLaws.{dividend-is, divisor-is}
-use Rattle.doubles.specs.QuotientLaws.{held, worth-at, exact-at, zero-at}
-use Rattle.doubles.specs.NearestLaws.{nearest-at, nearest-only}
+use Rattle.doubles.proofs.ValueLaws.{is-sized}
+use Rattle.doubles.proofs.OperandLaws.{dividend-is, divisor-is}
+use Rattle.doubles.proofs.QuotientLaws.{held, worth-at, exact-at, zero-at}
+use Rattle.doubles.proofs.NearestLaws.{nearest-at, nearest-only}
 
 pub quotient_is : (raw : ℤ) (e f : ℕ) → InRange raw e f → Quotient raw e f (quotient raw e f)
 unfolding quotient

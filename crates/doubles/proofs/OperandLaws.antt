@@ -9,7 +9,7 @@ use Rattle.std.specs.Float.Ieee.Fits.{of_int-fits}
 use Rattle.std.specs.Float.Ieee.Back.{round_whole}
 use Rattle.std.specs.Float.Ieee.Bits.{of_bits-fits}
 use Rattle.doubles.specs.Double.{minus, exponent, digits, size_by, size, signed, Is}
-use Rattle.doubles.specs.ValueLaws.{Worth, as-fraction, bits-worth, is-worth}
+use Rattle.doubles.proofs.ValueLaws.{Worth, as-fraction, bits-worth, is-worth}
 use Rattle.doubles.specs.Quotient.{bits_of, raw_double, scale_bits, scale_double, negative}
 
 -- ---- Raw

@@ -15,10 +15,10 @@ use Rattle.std.specs.Float.Ieee.Scale.{round_same, grid}
 use Rattle.std.specs.Float.Ieee.Positive.{first_pos}
 use Rattle.calibration.specs.Reading.{InRange}
 use Rattle.doubles.specs.Double.{size_by, size, signed, Is}
-use Rattle.doubles.specs.DoubleLaws.{same_bits}
-use Rattle.doubles.specs.ValueLaws.{times, Worth, as-fraction, is-sized, is-worth}
+use Rattle.doubles.proofs.DoubleLaws.{same_bits}
+use Rattle.doubles.proofs.ValueLaws.{times, Worth, as-fraction, is-sized, is-worth}
 use Rattle.doubles.specs.Quotient.{bits_of, raw_double, scale_double, negative, quotient}
-use Rattle.doubles.specs.OperandLaws.{by_sign, raw-worth, scale-worth}
+use Rattle.doubles.proofs.OperandLaws.{by_sign, raw-worth, scale-worth}
 
 -- ---- A division of two numbers is one rounding of their exact fraction
 

@@ -13,9 +13,9 @@ use Rattle.refusals.specs.Stages.{require, or_else}
 use Rattle.refusals.specs.Ranges.{first_misfit}
 use Rattle.calibration.specs.Reading as calibration
 use Rattle.calibration.specs.Reading.{exponent_by, fraction_by}
-use Rattle.calibration.specs.Laws.{value_read, value-placed}
+use Rattle.calibration.proofs.Laws.{value_read, value-placed}
 use Rattle.readings.specs.Thousandths.{half_up, nearest, denominator, thousandths}
-use Rattle.readings.specs.Laws.{thousandths-opposite, below, below-pos}
+use Rattle.readings.proofs.Laws.{thousandths-opposite, below, below-pos}
 use Rattle.readings.specs.Order.{ReadsAs, PlaceReadsAs, KeepsOrder, KeepsApart, AtMostThousand}
 
 -- ---- Quotients and signs

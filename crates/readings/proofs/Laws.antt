@@ -4,7 +4,8 @@ use Rattle.std.proofs.Math.Path.{ap}
 use Rattle.std.proofs.Common.{◌∙◌, add-mul, mul-pos, mul_left_comm, mul-le-mul, mul-le-mul_left, div-lt_iff_lt-mul, arith, leb→le, le→leb, pow_pos}
 use Rattle.std.proofs.Math.IntN.{*ℤ_comm}
 use Rattle.readings.specs.Thousandths.{half_up, nearest, numerator, denominator, thousandths}
-use Rattle.readings.specs.NearestLaws.{Nearest, nearest-is, nearest-only, nearest-opposite, times-opposite}
+use Rattle.readings.specs.NearestLaws.{Nearest, times-opposite}
+use Rattle.readings.proofs.NearestLaws.{nearest-is, nearest-only, nearest-opposite}
 
 -- ---- The number
 

@@ -6,7 +6,7 @@ use Rattle.std.proofs.Math.Decide.{dec_lt}
 use Rattle.std.proofs.Math.Nat.{eq_of_mul-eq-mul_right, pow-succ'}
 use Rattle.formats.specs.Bytes.{impossible}
 use Rattle.doubles.specs.Double.{minus, exponent, digits, size_by, size, signed, units, Is}
-use Rattle.doubles.specs.ValueLaws.{times}
+use Rattle.doubles.proofs.ValueLaws.{times}
 
 -- ---- A greater exponent, a greater size
 

@@ -17,10 +17,10 @@ use Rattle.std.specs.Float.Ieee.Order.{drop, kept}
 use Rattle.std.specs.Float.Ieee.Scale.{grid, normal_of_fraction}
 use Rattle.calibration.specs.Reading.{InRange}
 use Rattle.doubles.specs.Double.{minus, exponent, digits, size_by, size, signed, units}
-use Rattle.doubles.specs.DoubleLaws.{under, digits_in, same_bits}
-use Rattle.doubles.specs.ValueLaws.{times, is_number, is-sized}
+use Rattle.doubles.proofs.DoubleLaws.{under, digits_in, same_bits}
+use Rattle.doubles.proofs.ValueLaws.{times, is_number, is-sized}
 use Rattle.doubles.specs.Quotient.{bits_of, negative, quotient}
-use Rattle.doubles.specs.QuotientLaws.{held, worth-at}
+use Rattle.doubles.proofs.QuotientLaws.{held, worth-at}
 use Rattle.doubles.specs.Nearest.{distance, Nearest}
 
 -- ---- How far two numbers are apart
