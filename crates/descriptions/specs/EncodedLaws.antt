@@ -380,12 +380,12 @@ writes-description format =
     omega arith))
     (λ d h.
     let e : mask d / 256 * 256 + mask d % 256 ≡ mask d = omega arith in
-    (valid format d (sym (ap (λ (x : Description). x.mark) h.1.1.1)) (all_of w (mask d) 16 0 d.channels refl (rw e at h.1.1.0)) h.0.1, rw (append-nil, two_digits (mask d) (omega (arith, h.0.0)))))
+    (valid format d (sym (ap (λ (x : Description). x.mark) h.1.1.1)) (all_of w (mask d) 16 0 d.channels refl (subst (λ (m : ℕ). Each (GoodChannel w m) channels d.channels) e h.1.1.0)) h.0.1, rw (append-nil, two_digits (mask d) (omega (arith, h.0.0)))))
     (λ d h.
     let e : mask d / 256 * 256 + mask d % 256 ≡ mask d = omega arith in
     let b = bits-mask d h.sixteen in (
       (omega (arith, b.0), sym (xy-first d (mask d) b.1) ∙ true-is (includes_xy d) h.xy),
-      ((omega arith, refl), (rw e (of-all w (mask d) 16 0 d.channels refl (as-channels format d h)), λ j. record { channels = d.channels; mark = sym h.marked j })),
+      ((omega arith, refl), (subst (λ (m : ℕ). Each (GoodChannel w m) channels d.channels) (sym e) (of-all w (mask d) 16 0 d.channels refl (as-channels format d h)), λ j. record { channels = d.channels; mark = sym h.marked j })),
     ))
 
 -- so what is read of a format has its mark and is tidy

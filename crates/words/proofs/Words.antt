@@ -7,8 +7,8 @@ use native.Mathlib.Omega.{arith}
 use mathlib.Core.Bool.{Bool, true, false}
 use lib.Dec.{ltb}
 use borrow.Author.Tests.{ltb-true, ltb-false}
-use lib.ListN.{length, get_or}
-use Rattle.words.specs.Places.{Word, Sought}
+use lib.ListN.{length}
+use Rattle.words.specs.Places.{Word}
 use Rattle.words.specs.Names.{At, here, later}
 
 split : (a b : ℕ) (test : Bool) → ltb a b ≡ test → (a < b) ⊎ (b ≤ a)

@@ -1,0 +1,8 @@
+-- `description_writing::longest` meets its contract: the longest descriptions of the two formats, by cases.
+use Rattle.description_writing.proofs.longest.Goals as goal
+
+pub returns-in-Full : goal.returns-in-Full
+returns-in-Full c = rw c.in-Full.is
+
+pub returns-in-Compact : goal.returns-in-Compact
+returns-in-Compact c = rw c.in-Compact.is

@@ -1,0 +1,44 @@
+-- `numerals::whole_in` says the number of its digits, which fits with either sign: it is below 10^18.
+use mathlib.Core.Path.{◌≡◌, sym, ap, ◌∙◌}
+use mathlib.Core.Bool.{Bool, true, false}
+use mathlib.Core.List.{List}
+use Prim.Native.Nat.{ℕ, ◌<◌, ◌-◌, zero, suc}
+use native.Mathlib.Omega.{arith}
+use borrow.Author.Tests.{lt-ltb}
+use lib.ListN.{length, length-drop, take, drop}
+use lib.Seq.{take_all}
+use lib.IntN.{pos, ◌-ℤ◌}
+use mir.Syntax.{w64}
+use mir.Val.{SFits, to_z, of_z}
+use mir.ValLaws.{to_z_pos, to_z-of_z}
+use Rattle.words.specs.Said.{begins_with}
+use Rattle.numerals.specs.Decimal.{continued, whole}
+use Rattle.numerals.proofs.whole_in.Goals as goal
+
+-- the other sign: zero has none, and any other number goes below it
+turned : (n : ℕ) → n < 1000000000000000000 → SFits w64 (pos 0 -ℤ pos n)
+turned zero h = record { sfits = omega arith }
+turned (suc n) h = rw (lt-ltb 0 (suc n) (omega arith)) (record { sfits = omega (arith, h) })
+
+negative : (word rest : List ℕ) (n : ℕ) (says : Bool) → says ≡ true → says ≡ begins_with word 45 → rest ≡ take (length word - 1) (drop 1 word) → n < 1000000000000000000 → n ≡ continued 0 rest → to_z w64 (of_z w64 (pos 0 -ℤ to_z w64 n)) ≡ whole word
+unfolding whole
+negative word rest n says p q e h d =
+    let t : rest ≡ drop 1 word = e ∙ take_all (length word - 1) (drop 1 word) (simp length-drop (omega arith)) in
+    rw (to_z_pos w64 n (omega arith), to_z-of_z w64 (pos 0 -ℤ pos n) (turned n h), sym q ∙ p) (ap (λ (m : ℕ). pos 0 -ℤ pos m) (d ∙ ap (continued 0) t))
+
+plain : (word : List ℕ) (n : ℕ) (says : Bool) → says ≡ false → says ≡ begins_with word 45 → n < 1000000000000000000 → n ≡ continued 0 word → to_z w64 n ≡ whole word
+unfolding whole
+plain word n says p q h d = rw (to_z_pos w64 n (omega arith), sym q ∙ p) (ap pos d)
+
+pub overflow_sub-result : goal.overflow_sub-result
+overflow_sub-result c = rw (to_z_pos w64 c.digits_in-digits.result.magnitude (omega (arith, c.digits_in-digits.ensures.0))) (turned c.digits_in-digits.result.magnitude c.digits_in-digits.ensures.0)
+
+pub returns-then-begins : goal.returns-then-begins
+returns-then-begins c =
+    let word = c.args.word.now in
+    (λ e. negative word _ c.digits_in-digits.result.magnitude _ c.if-begins.true c.begins.ensures c.part.ensures c.digits_in-digits.ensures.0 (c.digits_in-digits.ensures.1 e))
+
+pub returns : goal.returns
+returns c =
+    let word = c.args.word.now in
+    (λ e. plain word c.digits_in-digits-2.result.magnitude _ c.if-begins.false c.begins.ensures c.digits_in-digits-2.ensures.0 (c.digits_in-digits-2.ensures.1 e))

@@ -1,0 +1,19 @@
+-- `texts::put_long` meets its contract: the sign is put before the magnitude.
+use mathlib.Core.Path.{◌≡◌, ap₂, ◌∙◌}
+use mir.Syntax.{w64}
+use mir.Val.{to_z, of_z}
+use mir.ValLaws.{to_z-of_z}
+use Rattle.texts.specs.Gathered.{gathered}
+use Rattle.texts.specs.JoiningLaws.{long-below, long-above}
+use Rattle.texts.proofs.put_long.Goals as goal
+use Rattle.texts.proofs.put_long.Goals.{then-value-lt0, else-value-lt0}
+
+pub returns : goal.returns
+returns c =
+    let e : to_z w64 (of_z w64 c.args.value) ≡ c.args.value = to_z-of_z w64 _ c.ranges.value in
+    let n = rw e at c.magnitude.ensures in
+    c.put_number.ensures
+    ∙ elim c.if-value-lt0.branch [
+      | then-value-lt0 w ↦ long-below _ _ _ _ (rw e at w.if-value-lt0.true) (ap₂ gathered w.text-is w.used-is ∙ w.put-used.ensures) n
+      | else-value-lt0 w ↦ long-above _ _ _ _ (rw e at w.if-value-lt0.false) (ap₂ gathered w.text-is w.used-is) n
+    ]
