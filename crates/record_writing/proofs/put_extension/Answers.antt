@@ -11,7 +11,7 @@ use Rattle.stored_numbers.specs.NumberLaws.{number-laid}
 use Rattle.records.specs.Record.{encode_extended}
 use Rattle.record_writing.proofs.Laying.{wanted_room, wanted-laid}
 use Rattle.record_writing.proofs.put_extension.Goals as goal
-use Rattle.record_writing.proofs.put_extension.Goals.{After-put, After-slice_known-1, Else-not-wanted, Start}
+use Rattle.record_writing.proofs.put_extension.Goals.{After-put, Else-not-wanted, Start}
 
 -- where they are wanted
 module _ (c : Else-not-wanted) where
@@ -37,8 +37,7 @@ overflow_cast-extended c = record { fits = omega (arith, small (goal.at.overflow
 pub returns : goal.returns
 returns c =
     let q = (goal.at.returns c).After-put in
-    let p = (goal.at.After-put q).Else-not-wanted in
-    let w = (goal.at.Else-not-wanted p).After-slice_known-1 in
-    let f = number-laid 2 _ _ _ (room-first _ _ (room w)) p.put_number-next.ensures in
+    let w = (goal.at.After-put q).Else-not-wanted in
+    let f = number-laid 2 _ _ _ (room-first _ _ (room w)) q.put_number-next.ensures in
     let l = within-laid _ (room-rest f (room w)) q.put.ensures in
     wanted-laid (start w).args.extended.now (start w).args.wanted (wanted w) (laid_more f l)

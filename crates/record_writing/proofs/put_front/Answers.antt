@@ -5,7 +5,7 @@ use Rattle.formats.specs.Laid.{Room, Laid, laid_more, room-first, room-rest, wit
 use Rattle.records.specs.Record.{identifier_bytes, version_bytes}
 use Rattle.record_writing.specs.Parts.{opening_bytes, front_bytes}
 use Rattle.record_writing.proofs.put_front.Goals as goal
-use Rattle.record_writing.proofs.put_front.Goals.{After-put-at, After-put-at-2, After-put-at-3, After-put_opening, After-slice_known-3-1, Start}
+use Rattle.record_writing.proofs.put_front.Goals.{After-put-at, After-put-at-2, After-put-at-3, After-put_opening, Start}
 
 -- what each needs room for
 module _ (s : Start) where
@@ -53,5 +53,5 @@ pub returns : goal.returns
 unfolding front_bytes
 returns c =
     let o = (goal.at.returns c).After-put_opening in
-    let p = (goal.at.After-put_opening o).After-slice_known-3-1 in
+    let p = (goal.at.After-put_opening o).After-put-at-3 in
     laid_more (first-laid (first (second p))) (laid_more (second-laid (second p)) (laid_more (third-laid p) o.put_opening.ensures))

@@ -7,7 +7,7 @@ use native.Mathlib.Omega.{arith}
 use lib.ListN.{length, length-set}
 use Rattle.record_writing.proofs.Laying.{opening-list, laid-five}
 use Rattle.record_writing.proofs.put_opening.Goals as goal
-use Rattle.record_writing.proofs.put_opening.Goals.{Joined-wanted, Start}
+use Rattle.record_writing.proofs.put_opening.Goals.{then-wanted, else-wanted, Joined-wanted, Start}
 
 -- there is room for five bytes
 five : (s : Start) → s.args.at + 5 ≤ length s.args.out.now
@@ -15,7 +15,8 @@ five s = omega (arith, s.requires.1.enough, ap length (opening-list s.args.wante
 
 -- the opening byte
 opening : (c : Joined-wanted) → c.if-wanted.out ≡ cond c.args.wanted 0x80 0x00
-opening c = ⊎_elim (λ w. w.1 ∙ rw w.0.taken) (λ w. w.1 ∙ rw w.0.left) c.if-wanted.branch
+opening c =
+    elim c.if-wanted.branch [ then-wanted w ↦ w.out-is ∙ rw w.if-wanted.true | else-wanted w ↦ w.out-is ∙ rw w.if-wanted.false ]
 
 pub bounds-out-at : goal.bounds-out-at
 bounds-out-at c = omega (arith, five c)

@@ -10,7 +10,7 @@ use Rattle.values.specs.ValueLaws.{put-laid}
 use Rattle.records.specs.Record.{encode_extended}
 use Rattle.record_writing.specs.Parts.{front_bytes, record_bytes}
 use Rattle.record_writing.proofs.put_record.Goals as goal
-use Rattle.record_writing.proofs.put_record.Goals.{After-put-at, After-put_extension, After-put_front-at, After-slice_known-2-1, Start}
+use Rattle.record_writing.proofs.put_record.Goals.{After-put-at, After-put_extension, After-put_front-at, Start}
 
 -- there is room for each part
 module _ (s : Start) where
@@ -53,5 +53,5 @@ pub returns : goal.returns
 unfolding record_bytes
 returns c =
     let e = (goal.at.returns c).After-put_extension in
-    let p = (goal.at.After-put_extension e).After-slice_known-2-1 in
+    let p = (goal.at.After-put_extension e).After-put-at in
     laid_more (fronted p).put_front-at.ensures (laid_more (points p) e.put_extension.ensures)

@@ -17,7 +17,7 @@ use Rattle.record_writing.specs.Parts.{record_bytes, write_described}
 use Rattle.record_writing.specs.WriteLaws.{numbers-pass, bytes-length}
 use Rattle.record_writing.specs.declared.Written.TheVariants as written
 use Rattle.record_writing.proofs.write_described.Goals as goal
-use Rattle.record_writing.proofs.write_described.Goals.{After-judge_values-judged, After-put_record, After-record_size-length, After-slice_known-1, After-width-width, In_default, Start}
+use Rattle.record_writing.proofs.write_described.Goals.{After-judge_values-judged, After-put_record, After-record_size-length, In_default, Start}
 
 -- what the stages said decides
 module _ (m : After-judge_values-judged) where
@@ -66,7 +66,7 @@ module _ (c : After-record_size-length) where
       let a = (asked from).args in
       c.record_size-length.ensures
       ∙ ap (λ y. length a.described.now + a.count * y + extra + 13) c.width-width.ensures.0
-      ∙ bytes-length a.order a.stored a.count a.values.now a.wanted a.extended.now a.described.now (pass from passed.enum_told-1.given.1).fitting
+      ∙ bytes-length a.order a.stored a.count a.values.now a.wanted a.extended.now a.described.now (pass from passed.in_default.is).fitting
 
 pub returns-then-out-length : goal.returns-then-out-length
 unfolding put_where
@@ -87,8 +87,7 @@ pub returns : goal.returns
 unfolding put_where
 returns c =
     let q = (goal.at.returns c).After-put_record in
-    let r = (goal.at.After-put_record q).After-width-width in
-    let e = r in
-    let m = (goal.at.After-width-width e).After-slice_known-1 in
+    let r = (goal.at.After-put_record q).After-record_size-length in
+    let m = (goal.at.After-put_record q).After-judge_values-judged in
     ap₂ (λ n t. writing (written.Record n) t) (size r) q.put_record.ensures.bytes
-    ∙ sym (by m e.enum_told-1.given.1 ∙ rw (le-leb (length (meant m)) (length (asked m).args.out.now) (omega (arith, size r))))
+    ∙ sym (by m q.in_default.is ∙ rw (le-leb (length (meant m)) (length (asked m).args.out.now) (omega (arith, size r))))

@@ -11,7 +11,7 @@ use Rattle.description_writing.specs.AsideLaws.{aside-done, aside-refused}
 use Rattle.record_writing.specs.WriteLaws.{described-written}
 use Rattle.record_writing.proofs.Laying.{refused-written}
 use Rattle.record_writing.proofs.write_in.Goals as goal
-use Rattle.record_writing.proofs.write_in.Goals.{After-described-1, After-put, After-room-1, After-room-2-1, After-slice_known-1, After-write_described, Start}
+use Rattle.record_writing.proofs.write_in.Goals.{After-put, After-write_described, Start}
 
 -- the description, put aside
 module _ (m : After-put) where
@@ -25,26 +25,22 @@ module _ (m : After-put) where
   fits = description-size 2 start.args.description
 
 pub slice_bounds-described-end : goal.slice_bounds-described-end
-slice_bounds-described-end c = let e = c in let m = (goal.at.slice_bounds-described-end e).After-room-1 in (aside-done Full _ _ _ _ (aside m) (fits m) e.end-1.given.1).1
+slice_bounds-described-end c = let m = (goal.at.slice_bounds-described-end c).After-put in (aside-done Full _ _ _ _ (aside m) (fits m) c.in-Done.is).1
 
 pub write_described-requires : goal.write_described-requires
 write_described-requires c =
-    let e = c in
-    let m = (goal.at.write_described-requires e).After-room-1 in
-    rw (aside-done Full _ _ _ _ (aside m) (fits m) e.end-1.given.1).2 (fits m)
+    let m = (goal.at.write_described-requires c).After-put in
+    rw (aside-done Full _ _ _ _ (aside m) (fits m) c.in-Done.is).2 (fits m)
 
 pub returns-in-Done : goal.returns-in-Done
 returns-in-Done c =
     let w = (goal.at.returns-in-Done c).After-write_described in
-    let q = (goal.at.After-write_described w).After-described-1 in
-    let e = (goal.at.After-described-1 q).After-room-2-1 in
-    let m = (goal.at.After-room-2-1 e).After-slice_known-1 in
-    let a = aside-done Full _ _ _ _ (aside m) (fits m) e.in-Done.is in
-    w.write_described.ensures ∙ described-written _ _ _ _ _ _ _ a.0 a.2 q.stored_channels-stored.ensures
+    let m = (goal.at.After-write_described w).After-put in
+    let a = aside-done Full _ _ _ _ (aside m) (fits m) w.in-Done.is in
+    w.write_described.ensures ∙ described-written _ _ _ _ _ _ _ a.0 a.2 w.stored_channels-stored.ensures
 
 pub returns-in-Refused : goal.returns-in-Refused
 returns-in-Refused c =
-    let e = c in
-    let m = (goal.at.returns-in-Refused e).After-put in
+    let m = (goal.at.returns-in-Refused c).After-put in
     let a = (start m).args in
-    refused-written a.order a.description a.count a.values.now a.wanted a.extended.now a.out-1.now (aside-refused Full _ _ _ _ (aside m) (fits m) e.in-Refused.is)
+    refused-written a.order a.description a.count a.values.now a.wanted a.extended.now a.out.now (aside-refused Full _ _ _ _ (aside m) (fits m) c.in-Refused.is)
