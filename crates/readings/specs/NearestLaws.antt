@@ -1,12 +1,8 @@
 -- What is nearest to a fraction, over whole numbers: at most half of d off, a half going away from zero; and what the other sign makes of it.
-use Rattle.std.specs.Prelude.{◌≡◌, refl, Bool, true, false, ℕ, zero, suc, ◌+◌, ◌-◌, ◌*◌, ◌≤◌, ◌<◌, ℤ, pos, negsuc, nat_abs, ◌+ℤ◌, ◌-ℤ◌, ◌*ℤ◌, ltb}
+use Rattle.std.specs.Prelude.{◌≡◌, refl, Bool, true, false, ℕ, zero, suc, ◌+◌, ◌-◌, ◌*◌, ◌≤◌, ◌<◌, ℤ, pos, negsuc, nat_abs, ◌-ℤ◌, ◌*ℤ◌, ltb}
 use Rattle.std.proofs.Math.Path.{sym, ap}
-use Rattle.std.proofs.Common.{◌∙◌, subst, div-add-mod', mod-lt, add-mul, mul_left_comm, suc-mul, zero-mul, arith, ltb-true, ltb-false, lt-ltb, le-ltb}
-use Rattle.std.proofs.Math.Logic.{by_cases}
-use Rattle.std.proofs.Math.Nat.{div-eq_of_lt-le}
-use Rattle.std.proofs.Math.Decide.{dec_lt}
-use Rattle.std.proofs.Math.IntN.{neg_ℤ, sub_ℕ, +ℤ_idr, +ℤ_invr, neg_ℤ-+ℤ, neg_ℤ-neg_ℤ}
-use Rattle.readings.specs.Thousandths.{half_up, nearest}
+use Rattle.std.proofs.Common.{◌∙◌, zero-mul, arith, ltb-true, ltb-false, lt-ltb, le-ltb}
+use Rattle.std.proofs.Math.IntN.{neg_ℤ, sub_ℕ, neg_ℤ-+ℤ, neg_ℤ-neg_ℤ}
 
 -- q is nearest to n / d: twice the distance of n from q · d is at most d, and where it is d itself, q · d lies further from zero than n
 pub record Nearest (n : ℤ) (d : ℕ) (q : ℤ) : Type 0 where
