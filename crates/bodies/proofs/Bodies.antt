@@ -6,8 +6,6 @@ use Prim.Native.Nat.{ℕ, zero, suc, ◌+◌, ◌/◌, ◌%◌, ◌≤◌, ◌<�
 use native.Mathlib.Nat.{div-add-mod'}
 use native.Mathlib.Omega.{arith}
 use borrow.Author.Tests.{eq-eqb, ne_eqb, lt-ltb, le-ltb}
-use types.Run.{OneOf, miss}
-use denote.Enum.Declared.{tag_of}
 use lib.Dec.{ltb}
 use lib.IntN.{ℤ}
 use lib.ListN.{length}
@@ -34,7 +32,6 @@ use Rattle.bodies.specs.declared.Rule.{Rule}
 use Rattle.bodies.specs.declared.Verdict.{Verdict}
 use Rattle.bodies.specs.declared.Verdict.TheVariants as verdict
 use Rattle.bodies.specs.declared.Pointed.TheVariants as pointed
-use Rattle.bodies.specs.contracts.Verdict as declared
 
 -- ---- How many points some bytes begin
 
@@ -114,11 +111,11 @@ own limited maximum size (ok points n) {refusal} e = go (ltb n size) (exceeds li
 own limited maximum size short e = impossible (cc)
 own limited maximum size (bad k p) e = impossible (cc)
 
-bodied : {d : Description} (v : Verdict) → OneOf (0 ∷ 1 ∷ []) (tag_of declared.the_type v) → ((refusal : Refusal) → v ≡ verdict.TemplateRefused refusal → ⊥)
+bodied : {d : Description} (v : Verdict) → ((refusal : Refusal) → v ≡ verdict.Refused refusal → ⊥) → ((refusal : Refusal) → v ≡ verdict.TemplateRefused refusal → ⊥)
     → record { verdict = v; description = d } ≡ described d v
 bodied (verdict.Body count) h n = refl
 bodied (verdict.TemplateRefused refusal) h n = absurd (n refusal refl)
-bodied (verdict.Refused refusal) h n = absurd (miss (0 ∷ 1 ∷ []) 2 tt h)
+bodied (verdict.Refused refusal) h n = absurd (h refusal refl)
 
 -- whether there is a point, by its count
 module _ (index count : ℕ) where
@@ -161,5 +158,5 @@ module _ (j : templates.Judged) (b : List ℕ) (rule : Rule) (e : rule ≡ rule_
     judged-faulty r = let z : unjudged v ≡ described j.template.description v = rw r in z ∙ judged-passed
 
     -- where it isn't refused there is a body
-    pub judged-body : OneOf (0 ∷ 1 ∷ []) (tag_of declared.the_type v) → record { verdict = v; description = j.template.description } ≡ judged_by j b
+    pub judged-body : ((refusal : Refusal) → v ≡ verdict.Refused refusal → ⊥) → record { verdict = v; description = j.template.description } ≡ judged_by j b
     judged-body h = bodied v h (λ refusal r. own rule.limited rule.maximum (length b) (points_in rule.stored b) (sym o ∙ r)) ∙ judged-passed

@@ -6,8 +6,6 @@ use Prim.Native.Nat.{ℕ, ◌+◌, ◌*◌, ◌≤◌, ◌<◌}
 use native.Mathlib.Nat.{mul-le-mul_right}
 use native.Mathlib.Omega.{arith}
 use borrow.Author.Tests.{ltb-true}
-use types.Run.{OneOf, miss}
-use denote.Enum.Declared.{tag_of}
 use lib.Dec.{ltb}
 use lib.IntN.{ℤ}
 use lib.ListN.{length, replicate}
@@ -33,7 +31,6 @@ use Rattle.bodies.specs.declared.Verdict.{Verdict}
 use Rattle.bodies.specs.declared.Verdict.TheVariants as verdict
 use Rattle.bodies.specs.declared.Pointed.{Pointed}
 use Rattle.bodies.specs.declared.Pointed.TheVariants as pointed
-use Rattle.bodies.specs.contracts.Pointed as asked
 use Rattle.bodies.specs.DemandLaws.{said_of}
 
 -- a verdict that is a body tells what was read
@@ -77,8 +74,8 @@ ruled-point judgement.Passed t b index e =
     point-read _ _ _ (read t b) index v refl (ap (pointed_at index) (sym (said_of t.description v)) ∙ e)
 ruled-point (judgement.Refused refusal) t b index e = impossible (cc)
 
-no-places : (p : Pointed) → OneOf (1 ∷ 2 ∷ []) (tag_of asked.the_type p) → (index : ℕ) (t : Template) (b : List ℕ) → nowhere ≡ places_if p index t b
-no-places pointed.Point h index t b = absurd (miss (1 ∷ 2 ∷ []) 0 tt h)
+no-places : (p : Pointed) → (p ≡ pointed.Point → ⊥) → (index : ℕ) (t : Template) (b : List ℕ) → nowhere ≡ places_if p index t b
+no-places pointed.Point h index t b = absurd (h refl)
 no-places (pointed.TemplateRefused refusal) h index t b = refl
 no-places (pointed.Refused refusal) h index t b = refl
 
@@ -88,7 +85,7 @@ module _ (index : ℕ) (j : templates.Judged) (b : List ℕ) where
   Shown included stored start = places.places_in included stored (read_at (point 1 stored) b start) ≡ places_by index j b
 
   -- no point is read as one of no channel
-  pub shown-none : {p : Pointed} → p ≡ pointed_by index j b → OneOf (1 ∷ 2 ∷ []) (tag_of asked.the_type p) → Shown (replicate 16 false) (replicate 16 false) 0
+  pub shown-none : {p : Pointed} → p ≡ pointed_by index j b → (p ≡ pointed.Point → ⊥) → Shown (replicate 16 false) (replicate 16 false) 0
   unfolding places_by
   shown-none {p} e h = read-nowhere 1 b 0 ∙ no-places p h index j.template b ∙ ap (λ p. places_if p index j.template b) e
 
