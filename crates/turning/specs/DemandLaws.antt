@@ -47,7 +47,7 @@ use Rattle.record_writing.specs.declared.Written.TheVariants as record-written
 use Rattle.templates.specs.Template.{encode}
 use Rattle.templates.specs.Reading.{accepted, template_of}
 use Rattle.template_writing.specs.Writing as template-writing
-use Rattle.template_writing.specs.Written.{read_back}
+use Rattle.template_writing.proofs.ReadBack.{read_back}
 use Rattle.template_writing.specs.declared.Written.TheVariants as template-written
 use Rattle.bodies.specs.Reading.{exceeds, ruling, read, judged_by, pointed_by, places_if, places_by}
 use Rattle.bodies.specs.Writing.{count_fits, judgement_by, write_by}
