@@ -1,6 +1,7 @@
 // The console: one question a line, one answer a line, over every public function of the library.
 #![tactic(auto)]
 
+use std::io::Read;
 
 // The longest line that is read.
 const LONGEST: usize = 262144;
@@ -62,14 +63,24 @@ struct Turn {
 }
 
 // Reads once, and takes what came.
-fn take_some(text: &mut [u8; 65536], line: &mut [u8; 262144], gathered: usize) -> Turn {
+fn take_some<R: Read>(
+    input: &mut R,
+    text: &mut [u8; 65536],
+    line: &mut [u8; 262144],
+    gathered: usize,
+) -> Turn {
     let mut bytes = [0; 65536];
-    let got = libc::read(0, &mut bytes);
-    let n = io::count(got, &bytes);
-    Turn {
-        more: 0 < n,
-        failed: got < 0,
-        gathered: take(text, line, gathered, &bytes[0..n]),
+    match input.read(&mut bytes) {
+        Ok(n) => Turn {
+            more: 0 < n,
+            failed: false,
+            gathered: take(text, line, gathered, &bytes[0..n]),
+        },
+        Err(_) => Turn {
+            more: false,
+            failed: true,
+            gathered: gathered,
+        },
     }
 }
 
@@ -79,13 +90,14 @@ fn tell_unreadable() {
 
 // A proved loop has to end, and nothing says that the input does: its turns are counted, up to a number that no run comes to.
 // A read that fails is not the end of the input: what is gathered then may be a part of a line, and is not answered.
-fn main() {
+fn main(rt: HostRuntime) {
+    let mut input = rt.stdin();
     let mut text = [0; 65536];
     let mut line = [0; 262144];
     let mut gathered: usize = 0;
     let mut turns: u64 = 0;
     while turns < 18446744073709551615 {
-        let turn = take_some(&mut text, &mut line, gathered);
+        let turn = take_some(&mut input, &mut text, &mut line, gathered);
         if turn.failed {
             tell_unreadable();
             return;

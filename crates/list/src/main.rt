@@ -7,6 +7,7 @@ ghost use Rattle.io.specs.Counts.{IsPrefixLen};
 use channels::{Format, Place};
 use point_places::PlaceRead;
 use refusals::{Refusal, Where};
+use std::io::Read;
 use walks::Found;
 
 // Each function here puts something into the text that is gathered, and answers how many bytes are gathered then.
@@ -144,20 +145,26 @@ struct Input {
 }
 
 // Reads until the file's room is full, the input ends or a read fails.
-fn read_input(file: &mut [u8]) -> Input
+fn read_input<R: Read>(input: &mut R, file: &mut [u8]) -> Input
     ensures { IsPrefixLen result.read file.new }
 {
     let mut read: usize = 0;
     while read < file.len() {
-        let got = libc::read(0, &mut file[read..]);
-        let more = io::count(got, &file[read..]);
-        if more == 0 {
-            return Input {
-                read: read,
-                failed: got < 0,
-            };
+        match input.read(&mut file[read..]) {
+            Ok(0) => {
+                return Input {
+                    read: read,
+                    failed: false,
+                };
+            }
+            Ok(more) => read += more,
+            Err(_) => {
+                return Input {
+                    read: read,
+                    failed: true,
+                };
+            }
         }
-        read += more;
     }
     Input {
         read: read,
@@ -166,9 +173,9 @@ fn read_input(file: &mut [u8]) -> Input
 }
 
 // One byte more than is listed, so that it is seen where there are more.
-fn main() {
+fn main(rt: HostRuntime) {
     let mut file = [0; 65537];
-    let input = read_input(&mut file);
+    let input = read_input(&mut rt.stdin(), &mut file);
     if input.failed {
         io::write_all(1, b"unreadable\n");
         return;

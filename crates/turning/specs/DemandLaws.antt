@@ -28,10 +28,10 @@ use Rattle.channels.specs.declared.Format.TheVariants.{Full, Compact}
 use Rattle.points.specs.Points.{width}
 use Rattle.point_places.specs.Places.{places_of, nowhere}
 use Rattle.orders.specs.Orders.{size, values_of, points_of}
-use Rattle.orders.specs.OrderLaws.{values-many, points-again}
+use Rattle.orders.proofs.OrderLaws.{values-many, points-again}
 use Rattle.orders.specs.declared.Order.TheVariants.{Point}
 use Rattle.values.specs.Values as values
-use Rattle.values.specs.ValueLaws.{valid-sizes}
+use Rattle.values.proofs.ValueLaws.{valid-sizes}
 use Rattle.descriptions.specs.Description as descriptions
 use Rattle.descriptions.specs.Description.{includes_xy, neat}
 use Rattle.descriptions.specs.EncodedLaws.{tidy-neat}

@@ -12,7 +12,7 @@ use mir.Syntax.{w32, w64}
 use mir.Val.{Fits, SFits, to_z, of_z}
 use mir.ValLaws.{to_z-of_z}
 use Rattle.calibration.specs.Reading.{exponent_of, fraction_of, reading, reading_by, scaled_reading, operands}
-use Rattle.calibration.specs.Laws.{by-exponent-and-fraction, by-one-below-zero}
+use Rattle.calibration.proofs.Laws.{by-exponent-and-fraction, by-one-below-zero}
 use Rattle.calibration.proofs.with_scaling.Goals as goal
 use Rattle.calibration.proofs.with_scaling.Goals.{Else-not-given, Else-number-lt0, Start, Then-number-lt0}
 

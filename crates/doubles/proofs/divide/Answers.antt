@@ -2,8 +2,8 @@
 use native.Mathlib.Omega.{arith}
 use mir.Facts.{to_z-of_z}
 use Rattle.doubles.specs.Quotient.{quotient}
-use Rattle.doubles.specs.OperandLaws.{raw-held}
-use Rattle.doubles.specs.ReadingLaws.{quotient_is}
+use Rattle.doubles.proofs.OperandLaws.{raw-held}
+use Rattle.doubles.proofs.ReadingLaws.{quotient_is}
 use Rattle.doubles.proofs.divide.Goals as goal
 use Rattle.doubles.proofs.divide.Goals.{After-scale_of-scale, Start}
 

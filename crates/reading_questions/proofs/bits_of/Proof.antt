@@ -1,6 +1,6 @@
 -- `reading_questions::bits_of` meets its contract: a number is no NaN, so its bits may be asked for. Assumes nothing.
 use borrow.Author.Rules.{rules}
-use Rattle.doubles.specs.ReadingLaws.{no_nan}
+use Rattle.doubles.proofs.ReadingLaws.{no_nan}
 use Rattle.reading_questions.proofs.bits_of.Statement.{statement}
 use Rattle.reading_questions.proofs.bits_of.Tie as tie
 

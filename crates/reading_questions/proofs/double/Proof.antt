@@ -1,6 +1,6 @@
 -- `reading_questions::double` meets its contract: what `to_double` answers is a number. Assumes nothing.
 use borrow.Author.Rules.{rules}
-use Rattle.doubles.specs.ReadingLaws.{exactly-number}
+use Rattle.doubles.proofs.ReadingLaws.{exactly-number}
 use Rattle.reading_questions.proofs.double.Statement.{statement}
 use Rattle.reading_questions.proofs.double.Tie as tie
 

@@ -2,7 +2,7 @@
 use borrow.Author.Rules.{rules}
 use mathlib.Core.Path.{subst}
 use Rattle.doubles.specs.Reading.{PlacedExactly}
-use Rattle.doubles.specs.ReadingLaws.{exactly-number}
+use Rattle.doubles.proofs.ReadingLaws.{exactly-number}
 use Rattle.reading_questions.proofs.double_place.Statement.{statement}
 use Rattle.reading_questions.proofs.double_place.Tie as tie
 

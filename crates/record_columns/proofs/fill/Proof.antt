@@ -8,7 +8,7 @@ use Rattle.channels.specs.Channel.{width_of}
 use Rattle.channels.specs.declared.Format.TheVariants.{Full}
 use Rattle.points.specs.Points.{sample_size, width}
 use Rattle.orders.specs.Orders.{size, step, stride}
-use Rattle.orders.specs.OrderLaws.{step-within}
+use Rattle.orders.proofs.OrderLaws.{step-within}
 use Rattle.orders.specs.Parts.{AllAt}
 use Rattle.record_columns.proofs.Filling.{Gone, none-gone, gone-past, gone-next, all-filled, some, place-within, next-within, bytes-there, places-there}
 use borrow.Author.Rules.{rules}

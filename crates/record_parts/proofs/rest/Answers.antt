@@ -1,0 +1,23 @@
+-- `record_parts::rest` meets its contract: what follows the layout's end.
+use native.Mathlib.Omega.{arith}
+use lib.ListN.{length}
+use Rattle.record_layouts.specs.LayoutLaws.{failed-read}
+use Rattle.record_parts.proofs.Lying.{nowhere-lies, ends-within, rest-lies}
+use borrow.Author.Rules.{rules}
+use Rattle.record_parts.proofs.rest.Goals as goal
+
+pub returns-in_default : goal.returns-in_default
+returns-in_default c =
+    let z = nowhere-lies (length c.args.bytes.now) c.in_default.field-0 in
+    rw (failed-read _ _ c.layout_at-layout.ensures c.in_default.is) (rw (z.2, z.3) (search rules))
+
+pub slice_bounds-result-count-2 : goal.slice_bounds-result-count-2
+slice_bounds-result-count-2 c = omega (arith, (ends-within _ _ c.layout_at-layout.ensures c.in-Done.is).1)
+
+pub slice_bounds-result-start-2 : goal.slice_bounds-result-start-2
+slice_bounds-result-start-2 c = omega (arith, (ends-within _ _ c.layout_at-layout.ensures c.in-Done.is).1)
+
+pub returns : goal.returns
+returns c =
+    let z = rest-lies _ _ c.layout_at-layout.ensures c.in-Done.is in
+    rw (z.0, z.1) (search rules)
