@@ -53,7 +53,7 @@ use Rattle.bodies.specs.Reading.{exceeds, ruling, read, judged_by, pointed_by, p
 use Rattle.bodies.specs.Writing.{count_fits, judgement_by, write_by}
 use Rattle.bodies.specs.Writing as body-writing
 use Rattle.bodies.specs.Demands.{said, points_read}
-use Rattle.bodies.specs.DemandLaws.{reads-back}
+use Rattle.bodies.proofs.DemandLaws.{reads-back}
 use Rattle.bodies.specs.declared.Judged.{Judged}
 use Rattle.bodies.specs.declared.Pointed.TheVariants as pointed
 use Rattle.bodies.specs.declared.Verdict.TheVariants as verdict

@@ -29,10 +29,10 @@ use Rattle.templates.specs.Reading.{template_of}
 use Rattle.templates.specs.declared.Template.{Template}
 use Rattle.templates.specs.declared.Judged as templates
 use Rattle.bodies.specs.Body.{encode_body, ValidBody, begun, points_in}
-use Rattle.bodies.specs.BodyLaws.{begun-hold, begun-is, by_count, body-read, read-body, read-within, left_over, none_read, switch-refused}
+use Rattle.bodies.proofs.BodyLaws.{begun-hold, begun-is, by_count, body-read, read-body, read-within, left_over, none_read, switch-refused}
 use Rattle.bodies.specs.Reading.{ruled, exceeds, verdict_by, read, verdict_of, described, judged_if, judged_by}
 use Rattle.bodies.specs.Writing.{judgement_by, put_where, write_ruled, write_if, write_by}
-use Rattle.bodies.specs.WritingLaws.{count_fits_lem, Passes, passes, passing, passes-valid}
+use Rattle.bodies.proofs.WritingLaws.{count_fits_lem, Passes, passes, passing, passes-valid}
 use Rattle.bodies.specs.Demands.{said, description_of, flags, points_read, ReadsBack, WritesAgain, Bodied, JudgesBodies, EndsInside, JudgesShort, JudgesLeftOver}
 use Rattle.bodies.specs.declared.Verdict.{Verdict}
 use Rattle.bodies.specs.declared.Verdict.TheVariants as verdict

@@ -12,7 +12,7 @@ use Rattle.orders.specs.declared.Order.TheVariants.{Point}
 use Rattle.values.specs.Values as values
 use Rattle.values.proofs.ValueLaws.{fits-valid}
 use Rattle.bodies.specs.Body.{ValidBody}
-use Rattle.bodies.specs.BodyLaws.{no-points}
+use Rattle.bodies.proofs.BodyLaws.{no-points}
 use Rattle.bodies.specs.Reading.{exceeds}
 use Rattle.bodies.specs.Writing.{count_fits, judgement_by}
 

@@ -6,7 +6,7 @@ use Rattle.std.proofs.Math.Logic.{by_cases}
 use Rattle.std.proofs.Math.Decide.{dec_le}
 use Rattle.std.proofs.lemmas.Bool.{eqb-false}
 use Rattle.formats.specs.Bytes.{Bytes}
-use Rattle.formats.specs.Reader.{ok, bad, run, each, times}
+use Rattle.formats.specs.Reader.{ok, bad, run, times}
 use Rattle.formats.specs.Law.{whole}
 use Rattle.formats.specs.Compose.{at-start}
 use Rattle.formats.specs.Fixed.{fixed-times}
