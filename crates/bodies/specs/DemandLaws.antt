@@ -22,9 +22,9 @@ use Rattle.channels.specs.declared.Description.{Description}
 use Rattle.points.specs.Points.{point, width}
 use Rattle.points.specs.Laws.{writes-points, points-length}
 use Rattle.orders.specs.Orders.{size, points_of, values_of}
-use Rattle.orders.specs.OrderLaws.{points-many, points-again}
+use Rattle.orders.proofs.OrderLaws.{points-many, points-again}
 use Rattle.orders.specs.declared.Order.TheVariants.{Point}
-use Rattle.values.specs.ValueLaws.{laid-fits, valid-sizes}
+use Rattle.values.proofs.ValueLaws.{laid-fits, valid-sizes}
 use Rattle.templates.specs.Reading.{template_of}
 use Rattle.templates.specs.declared.Template.{Template}
 use Rattle.templates.specs.declared.Judged as templates

@@ -7,10 +7,10 @@ use Rattle.refusals.specs.Stages.{require, or_else, stages, compactly, require-p
 use Rattle.refusals.specs.declared.Judgement.TheVariants as judgement
 use Rattle.points.specs.Points.{width}
 use Rattle.orders.specs.Orders.{size, points_of}
-use Rattle.orders.specs.OrderLaws.{points-many}
+use Rattle.orders.proofs.OrderLaws.{points-many}
 use Rattle.orders.specs.declared.Order.TheVariants.{Point}
 use Rattle.values.specs.Values as values
-use Rattle.values.specs.ValueLaws.{fits-valid}
+use Rattle.values.proofs.ValueLaws.{fits-valid}
 use Rattle.bodies.specs.Body.{ValidBody}
 use Rattle.bodies.specs.BodyLaws.{no-points}
 use Rattle.bodies.specs.Reading.{exceeds}

@@ -11,9 +11,9 @@ use Rattle.refusals.specs.declared.Refusal.{Refusal}
 use Rattle.refusals.specs.declared.Refusal.TheVariants.{LeftOver, Amount}
 use Rattle.channels.specs.declared.Description.{Description}
 use Rattle.orders.specs.Orders.{size, Same, values_of}
-use Rattle.orders.specs.OrderLaws.{points-many, values-many, values-again, both-orders}
+use Rattle.orders.proofs.OrderLaws.{points-many, values-many, values-again, both-orders}
 use Rattle.orders.specs.declared.Order.TheVariants.{Point, Column}
-use Rattle.values.specs.ValueLaws.{valid-sizes, fits-valid}
+use Rattle.values.proofs.ValueLaws.{valid-sizes, fits-valid}
 use Rattle.channels.specs.Descriptors.{stored}
 use Rattle.records.specs.Record.{Record, full_record}
 use Rattle.records.specs.Demands.{write-after-read}

@@ -22,10 +22,10 @@ use Rattle.channels.specs.Descriptors.{stored}
 use Rattle.points.specs.Points.{point, width, ValidPoint}
 use Rattle.points.specs.Laws.{points-length}
 use Rattle.orders.specs.Orders.{size, values_of}
-use Rattle.orders.specs.OrderLaws.{all-sized, points-again}
+use Rattle.orders.proofs.OrderLaws.{all-sized, points-again}
 use Rattle.orders.specs.declared.Order.TheVariants.{Point}
 use Rattle.values.specs.Values.{bytes_of}
-use Rattle.values.specs.ValueLaws.{fits-valid, valid-bytes}
+use Rattle.values.proofs.ValueLaws.{fits-valid, valid-bytes}
 use Rattle.channels.specs.declared.Description.{Description}
 use Rattle.records.specs.Record.{Record, full_record, present}
 use Rattle.record_reading.specs.Verdict.{verdict_from, description_in, judged, unjudged, judged_whole}

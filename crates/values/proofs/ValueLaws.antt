@@ -29,7 +29,7 @@ use Rattle.tip_switch.specs.Switch.{byte_of, is_state, byte_if, state-byte}
 use Rattle.points.specs.Points.{channels, sample_size, widths, width, encode_sample, encode_point, fits_sample, ValidPoint}
 use Rattle.points.specs.Laws.{points-length}
 use Rattle.orders.specs.Orders.{size, step, stride, index, Same, numbers_from, points_from, points_of, values_of}
-use Rattle.orders.specs.OrderLaws.{points-many, same_points, values-many, points-again}
+use Rattle.orders.proofs.OrderLaws.{points-many, same_points, values-many, points-again}
 use Rattle.orders.specs.declared.Order.{Order}
 use Rattle.orders.specs.declared.Order.TheVariants.{Point, Column}
 use Rattle.values.specs.Values.{samples_in, samples_from, samples, judgement_of, stored_sample, number_in, sample_bytes, bytes_of, put_of}
