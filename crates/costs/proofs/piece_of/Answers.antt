@@ -6,23 +6,16 @@ use lib.ListN.{length}
 use Rattle.formats.specs.Bytes.{impossible}
 use Rattle.costs.specs.Handed.{piece_of}
 use borrow.Author.Rules.{rules}
-use Rattle.costs.proofs.piece_of.Statement.{statement}
-use Rattle.costs.proofs.piece_of.Tie as tie
+use Rattle.costs.proofs.piece_of.Goals as goal
 
 empty : (part : List ℕ) → length part ≡ 0 → record { length = 0; first = 0 } ≡ piece_of part
 unfolding piece_of
 empty [] e = refl
 empty (x ∷ part) e = impossible (cc)
 
-returns : tie.Need-returns
-returns c = empty _ c.if1.true
+pub returns-then-length-eq0 : goal.returns-then-length-eq0
+returns-then-length-eq0 c = empty _ c.if-length-eq0.true
 
-shared-slice-read-t5 : tie.Need-shared-slice-read-t5
-shared-slice-read-t5 c = search rules
-
-returns-2 : tie.Need-returns-2
+pub returns : goal.returns
 unfolding piece_of
-returns-2 c = search rules
-
-pub piece-of-spec : {M : Type 1} → statement M
-piece-of-spec = tie.close (tie.spec returns shared-slice-read-t5 returns-2)
+returns c = search rules
