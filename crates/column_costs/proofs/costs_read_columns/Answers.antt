@@ -7,11 +7,10 @@ pub returns-in-Columns : goal.returns-in-Columns
 unfolding handed_filling
 returns-in-Columns c =
     let m = c.read_columns-filled in
-    ap (λ answer. handing (handed_number answer) m.new.values.0) (sym c.in-Columns.is) ∙ ap handed_filling m.ensures
+    ap (λ answer. handing (handed_number answer) m.new.values) (sym c.in-Columns.is) ∙ ap handed_filling m.ensures
 
 pub returns-in-Refused : goal.returns-in-Refused
 unfolding handed_filling
 returns-in-Refused c =
-    let v = c in
-    let m = v.read_columns-filled in
-    rw c.number.ensures (ap (λ answer. handing (handed_number answer) m.new.values.0) (sym v.in-Refused.is) ∙ ap handed_filling m.ensures)
+    let m = c.read_columns-filled in
+    rw c.number.ensures (ap (λ answer. handing (handed_number answer) m.new.values) (sym c.in-Refused.is) ∙ ap handed_filling m.ensures)
