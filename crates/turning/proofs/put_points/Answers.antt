@@ -13,7 +13,7 @@ use Rattle.turning.specs.Parts.{bytes_in}
 use Rattle.turning.proofs.Putting.{next-bytes, all-length, all_room, no-points}
 use Rattle.turning.proofs.Standing.{counted, ith-within}
 use Rattle.turning.proofs.put_points.Goals as goal
-use Rattle.turning.proofs.put_points.Goals.{After-places-places, After-put_places-to, After-width-width, At-loop-i, In-loop-i, Start}
+use Rattle.turning.proofs.put_points.Goals.{After-places-places, At-loop-i, Start}
 
 pub loop-i-init : goal.loop-i-init
 loop-i-init c = (omega arith, omega arith, (λ points end e. owed_all _ _ _))

@@ -2,10 +2,10 @@
 use mathlib.Core.Path.{sym, ap, ◌∙◌}
 use lib.ListN.{length}
 use Rattle.turning.specs.Turning.{turn_of}
-use Rattle.turning.specs.DemandLaws.{by-record}
+use Rattle.turning.proofs.DemandLaws.{by-record}
 use Rattle.turning.proofs.Whole.{own-refused, Filled, filled}
 use Rattle.turning.proofs.turn.Goals as goal
-use Rattle.turning.proofs.turn.Goals.{After-judge_whole-judged, After-turn_whole, In_default, Start}
+use Rattle.turning.proofs.turn.Goals.{In_default, Start}
 
 pub returns-in-Refused : goal.returns-in-Refused
 returns-in-Refused c =

@@ -17,7 +17,7 @@ use Rattle.turning.specs.Turning.{body_bytes, judged_body}
 use Rattle.turning.proofs.Whole.{front-within, front_reads, front-judged, body-long, body_bytes_lem, turn-refused, turn-crowded, both-room, turn-done}
 use borrow.Author.Rules.{rules}
 use Rattle.turning.proofs.turn_described.Goals as goal
-use Rattle.turning.proofs.turn_described.Goals.{After-front_at-heading, After-judge_body-judged, After-put_points, After-width, Else-template-size, In_default, Start}
+use Rattle.turning.proofs.turn_described.Goals.{After-front_at-heading, After-judge_body-judged, After-width, Else-template-size, Start}
 
 -- the front is that of the bytes
 module _ (b : After-front_at-heading) where

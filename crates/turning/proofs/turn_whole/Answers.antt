@@ -11,7 +11,7 @@ use Rattle.turning.specs.declared.Turned.TheVariants.{Refused}
 use Rattle.turning.proofs.Aside.{by-body, by-numbers, aside-done, aside-refused}
 use Rattle.turning.proofs.Whole.{turn-refused}
 use Rattle.turning.proofs.turn_whole.Goals as goal
-use Rattle.turning.proofs.turn_whole.Goals.{After-room-1, After-slice_known-2-1, After-turn_described, After-write, Start}
+use Rattle.turning.proofs.turn_whole.Goals.{After-write, Start}
 
 -- the template, put aside
 module _ (m : After-write) where
