@@ -13,7 +13,7 @@ use Rattle.channels.specs.declared.Place.{Place}
 use Rattle.points.specs.Points.{stored_from, channels, encode_point}
 use Rattle.point_places.specs.Places.{unstored, places_of, nowhere}
 use Rattle.orders.specs.Orders.{size, step, stride, points_of}
-use Rattle.orders.specs.OrderLaws.{points-many, number_is, size-at}
+use Rattle.orders.proofs.OrderLaws.{points-many, number_is, size-at}
 use Rattle.orders.specs.declared.Order.TheVariants.{Point}
 use Rattle.channels.specs.Descriptors.{stored}
 use Rattle.records.specs.Record.{Record, header, opening_byte, encode_extended, encode, extended_bytes}

@@ -10,8 +10,8 @@ use Rattle.formats.specs.Reader.{Answer, ok, run}
 use Rattle.channels.specs.declared.Description.{Description}
 use Rattle.channels.specs.declared.Place.{Place}
 use Rattle.orders.specs.Orders.{size}
-use Rattle.orders.specs.OrderLaws.{size-at}
-use Rattle.values.specs.ValueLaws.{valid-sizes}
+use Rattle.orders.proofs.OrderLaws.{size-at}
+use Rattle.values.proofs.ValueLaws.{valid-sizes}
 use Rattle.channels.specs.Descriptors.{included, stored}
 use Rattle.records.specs.Record.{Record, full_record, IsRecord, present, extended_bytes}
 use Rattle.records.specs.Demands.{write-after-read}

@@ -11,9 +11,9 @@ use Rattle.channels.specs.declared.Description.{Description}
 use Rattle.channels.specs.declared.Place.{Place}
 use Rattle.point_places.specs.Places.{places_of, nowhere}
 use Rattle.orders.specs.Orders.{size, points_of, values_of}
-use Rattle.orders.specs.OrderLaws.{points-many}
+use Rattle.orders.proofs.OrderLaws.{points-many}
 use Rattle.orders.specs.declared.Order.TheVariants.{Point}
-use Rattle.values.specs.ValueLaws.{fits-valid, valid-sizes}
+use Rattle.values.proofs.ValueLaws.{fits-valid, valid-sizes}
 use Rattle.channels.specs.Descriptors.{included, stored}
 use Rattle.records.specs.Record.{Record, full_record, encode, IsRecord}
 use Rattle.record_reading.specs.Verdict.{judged, judged_whole}

@@ -22,7 +22,7 @@ use Rattle.points.specs.Laws.{nth-point, nth-sample, point-size, widths-behind}
 use Rattle.points.proofs.Samples.{stored-in, stored-out, stored-none}
 use Rattle.orders.specs.Orders as orders
 use Rattle.orders.specs.Orders.{size, values_of}
-use Rattle.orders.specs.OrderLaws.{rank_at, index-within, strides-within, rank-at, same-values, all-sized, values-many, value-is}
+use Rattle.orders.proofs.OrderLaws.{rank_at, index-within, strides-within, rank-at, same-values, all-sized, values-many, value-is}
 use Rattle.orders.specs.Parts.{AllAt}
 use Rattle.orders.specs.declared.Order.{Order}
 use Rattle.record_columns.specs.Parts.{NumberAt, ChannelFilled, PointsFilled}

@@ -17,11 +17,11 @@ use Rattle.channels.specs.declared.Description.{Description}
 use Rattle.description_judging.specs.Judging as described
 use Rattle.description_judging.specs.NamingLaws.{names-given}
 use Rattle.orders.specs.Orders.{size, Same}
-use Rattle.orders.specs.OrderLaws.{same_points}
+use Rattle.orders.proofs.OrderLaws.{same_points}
 use Rattle.orders.specs.declared.Order.TheVariants.{Point, Column}
 use Rattle.values.specs.Values.{judgement_of}
 use Rattle.values.specs.BothOrders.{NamesNoValue, SameJudgement}
-use Rattle.values.specs.BothOrderLaws.{same-behind, same-stage, same_test, same-judged}
+use Rattle.values.proofs.BothOrderLaws.{same-behind, same-stage, same_test, same-judged}
 use Rattle.channels.specs.Descriptors.{stored}
 use Rattle.channels.specs.declared.Format.TheVariants.{Full}
 use Rattle.records.specs.Record.{encode}

@@ -19,8 +19,8 @@ use Rattle.refusals.specs.declared.Judgement.TheVariants.{Passed, Refused}
 use Rattle.channels.specs.declared.Description.{Description}
 use Rattle.description_judging.specs.JudgingLaws.{valid-passed}
 use Rattle.orders.specs.Orders.{size, values_of}
-use Rattle.orders.specs.OrderLaws.{points-many, points-again}
-use Rattle.values.specs.ValueLaws.{valid-sizes, laid-fits}
+use Rattle.orders.proofs.OrderLaws.{points-many, points-again}
+use Rattle.values.proofs.ValueLaws.{valid-sizes, laid-fits}
 use Rattle.orders.specs.declared.Order.{Order}
 use Rattle.channels.specs.Descriptors.{stored}
 use Rattle.channels.specs.declared.Format.TheVariants.{Full}

@@ -17,8 +17,8 @@ use Rattle.channels.specs.declared.Description.{Description}
 use Rattle.points.specs.Points.{width, encode_point}
 use Rattle.values.specs.Values as values
 use Rattle.orders.specs.Orders.{size, points_of}
-use Rattle.orders.specs.OrderLaws.{points-many}
-use Rattle.values.specs.ValueLaws.{fits-valid, fits-length}
+use Rattle.orders.proofs.OrderLaws.{points-many}
+use Rattle.values.proofs.ValueLaws.{fits-valid, fits-length}
 use Rattle.orders.specs.declared.Order.{Order}
 use Rattle.descriptions.specs.Description.{encode_description}
 use Rattle.description_judging.specs.Judging as described

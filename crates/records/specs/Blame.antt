@@ -1,5 +1,5 @@
 -- Reading refuses the byte that breaks a rule, with the number of that rule, and refuses nothing else: by the lines of the record's layout.
-use Rattle.std.specs.Prelude.{◌≡◌, refl, ◌↔◌, ◌≢◌, Bool, true, false, cond, ◌||◌, ℕ, ◌+◌, ◌^◌, ◌≤◌, ◌<◌, eqb, length, take, get_or}
+use Rattle.std.specs.Prelude.{◌≡◌, refl, ◌↔◌, ◌≢◌, Bool, true, false, cond, ◌||◌, ℕ, ◌^◌, ◌≤◌, ◌<◌, eqb, length, take, get_or}
 use Rattle.std.proofs.Common.{sym, ap, ◌∙◌, arith, length-append, eqb-true, eq-eqb, ne_eqb}
 use mathlib.Core.List.{List, [], ◌∷◌, ◌++◌, append-nil, append_assoc, flat_map}
 use Rattle.std.proofs.Math.Seq.{take-append_seam, get_or-append_seam}

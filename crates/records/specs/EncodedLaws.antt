@@ -1,5 +1,5 @@
 -- What is read as a record is the encoding of a valid one, and the other way round.
-use Rattle.std.specs.Prelude.{◌≡◌, refl, Bool, true, false, ◌||◌, List, [], ◌++◌, ℕ, ◌+◌, ◌^◌, ◌<◌, eqb, length}
+use Rattle.std.specs.Prelude.{◌≡◌, refl, Bool, true, false, ◌||◌, List, [], ◌++◌, ℕ, ◌^◌, ◌<◌, eqb, length}
 use Rattle.std.proofs.Common.{sym, ap, append-nil, append_assoc, arith, eqb-true}
 use Rattle.std.proofs.Math.Option.{Option, none, some}
 use Rattle.formats.specs.Bytes.{Bytes, impossible}

@@ -28,10 +28,10 @@ use Rattle.channels.specs.declared.Format.TheVariants.{Full, Compact}
 use Rattle.points.specs.Points.{width}
 use Rattle.point_places.specs.Places.{places_of, nowhere}
 use Rattle.orders.specs.Orders.{size, values_of, points_of}
-use Rattle.orders.specs.OrderLaws.{values-many, points-again}
+use Rattle.orders.proofs.OrderLaws.{values-many, points-again}
 use Rattle.orders.specs.declared.Order.TheVariants.{Point}
 use Rattle.values.specs.Values as values
-use Rattle.values.specs.ValueLaws.{valid-sizes}
+use Rattle.values.proofs.ValueLaws.{valid-sizes}
 use Rattle.descriptions.specs.Description as descriptions
 use Rattle.descriptions.specs.Description.{includes_xy, neat}
 use Rattle.descriptions.specs.EncodedLaws.{tidy-neat}
@@ -47,13 +47,13 @@ use Rattle.record_writing.specs.declared.Written.TheVariants as record-written
 use Rattle.templates.specs.Template.{encode}
 use Rattle.templates.specs.Reading.{accepted, template_of}
 use Rattle.template_writing.specs.Writing as template-writing
-use Rattle.template_writing.specs.Written.{read_back}
+use Rattle.template_writing.proofs.ReadBack.{read_back}
 use Rattle.template_writing.specs.declared.Written.TheVariants as template-written
 use Rattle.bodies.specs.Reading.{exceeds, ruling, read, judged_by, pointed_by, places_if, places_by}
 use Rattle.bodies.specs.Writing.{count_fits, judgement_by, write_by}
 use Rattle.bodies.specs.Writing as body-writing
 use Rattle.bodies.specs.Demands.{said, points_read}
-use Rattle.bodies.specs.DemandLaws.{reads-back}
+use Rattle.bodies.proofs.DemandLaws.{reads-back}
 use Rattle.bodies.specs.declared.Judged.{Judged}
 use Rattle.bodies.specs.declared.Pointed.TheVariants as pointed
 use Rattle.bodies.specs.declared.Verdict.TheVariants as verdict

@@ -23,7 +23,7 @@ use Rattle.channels.specs.declared.Place.TheVariants.{Absent, Number}
 use Rattle.points.specs.Points.{stored_from, channels, point, width, fits_sample}
 use Rattle.point_places.specs.Places.{unstored, places_of, places_in}
 use Rattle.orders.specs.Orders.{size, step, stride, values_of}
-use Rattle.orders.specs.OrderLaws.{all-sized, values-many, value-is}
+use Rattle.orders.proofs.OrderLaws.{all-sized, values-many, value-is}
 use Rattle.orders.specs.declared.Order.TheVariants.{Point}
 use Rattle.values.specs.Values.{samples_in, samples_from, samples, judgement_of}
 use Rattle.values.proofs.Lent.{next-judged, last-judged}

@@ -22,10 +22,10 @@ use Rattle.channels.specs.Descriptors.{stored}
 use Rattle.points.specs.Points.{point, width, ValidPoint}
 use Rattle.points.specs.Laws.{points-length}
 use Rattle.orders.specs.Orders.{size, values_of}
-use Rattle.orders.specs.OrderLaws.{all-sized, points-again}
+use Rattle.orders.proofs.OrderLaws.{all-sized, points-again}
 use Rattle.orders.specs.declared.Order.TheVariants.{Point}
 use Rattle.values.specs.Values.{bytes_of}
-use Rattle.values.specs.ValueLaws.{fits-valid, valid-bytes}
+use Rattle.values.proofs.ValueLaws.{fits-valid, valid-bytes}
 use Rattle.channels.specs.declared.Description.{Description}
 use Rattle.records.specs.Record.{Record, full_record, present}
 use Rattle.record_reading.specs.Verdict.{verdict_from, description_in, judged, unjudged, judged_whole}
@@ -36,7 +36,7 @@ use Rattle.record_fronts.specs.Fronted.{front_in}
 use Rattle.record_fronts.specs.declared.Front.{Front}
 use Rattle.record_layouts.specs.Layout.{layout_at}
 use Rattle.record_layouts.specs.LayoutLaws.{Lying, read-lies}
-use Rattle.bodies.specs.WritingLaws.{passes}
+use Rattle.bodies.proofs.WritingLaws.{passes}
 use Rattle.turning.specs.Turning.{body_bytes, body_judgement, judged_body, turning, put_both, turned, turn_of}
 use Rattle.turning.specs.declared.Turned.TheVariants.{Both, Refused}
 use Rattle.turning.proofs.Standing.{counted, ith-size}

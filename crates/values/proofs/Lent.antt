@@ -27,11 +27,11 @@ use Rattle.tip_switch.specs.Switch.{is_state, byte_of, byte_if}
 use Rattle.channels.specs.declared.Stored.TheVariants.{Number, Outside}
 use Rattle.points.specs.Points.{stored_from, channels, fits_sample, width}
 use Rattle.orders.specs.Orders.{size, step, stride, numbers_from, points_from, points_of}
-use Rattle.orders.specs.OrderLaws.{index-within, step-within}
+use Rattle.orders.proofs.OrderLaws.{index-within, step-within}
 use Rattle.orders.specs.Parts.{many, AllAt}
 use Rattle.orders.proofs.Left.{many-out, many-in}
 use Rattle.values.specs.Values.{samples_in, samples_from, samples, judgement_of, stored_sample, sample_bytes, bytes_of, put_of}
-use Rattle.values.specs.ValueLaws.{points-bytes}
+use Rattle.values.proofs.ValueLaws.{points-bytes}
 use Rattle.values.specs.Parts.{Inside, point_bytes, points_bytes, bytes_left}
 use Rattle.orders.specs.declared.Order.{Order}
 use Rattle.orders.specs.declared.Order.TheVariants.{Point, Column}

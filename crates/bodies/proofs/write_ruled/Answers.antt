@@ -11,11 +11,11 @@ use Rattle.refusals.specs.declared.Judgement.{Judgement}
 use Rattle.refusals.specs.declared.Judgement.TheVariants.{Passed}
 use Rattle.orders.specs.Orders.{size, points_of}
 use Rattle.orders.specs.declared.Order.TheVariants.{Point}
-use Rattle.values.specs.ValueLaws.{fits-length, put-laid}
+use Rattle.values.proofs.ValueLaws.{fits-length, put-laid}
 use Rattle.bodies.specs.Body.{encode_body}
 use Rattle.bodies.specs.Writing.{put_where, write_ruled}
 use Rattle.bodies.specs.declared.Written.TheVariants as written
-use Rattle.bodies.specs.WritingLaws.{Passes, passes, fits-small}
+use Rattle.bodies.proofs.WritingLaws.{Passes, passes, fits-small}
 use Rattle.bodies.proofs.write_ruled.Goals as goal
 use Rattle.bodies.proofs.write_ruled.Goals.{After-judge_values-judged, After-width, Start}
 

@@ -8,7 +8,7 @@ use Rattle.point_places.proofs.places.Given as goal
 
 abbrev pub invariant-loop-channel : goal.invariant-loop-channel
 invariant-loop-channel l =
-    (l.channel ≤ 16) × (length l.places ≡ 16) × SoFar (width_of l.format) l.included l.stored l.bytes l.start l.places l.channel l.at
+    (l.channel ≤ 16) × (length l.places ≡ 16) × SoFar (width_of l.format) l.fn.included l.stored l.bytes l.start l.places l.channel l.at
 
 abbrev pub decreases-loop-channel : goal.decreases-loop-channel
 decreases-loop-channel l = 16 - l.channel

@@ -6,7 +6,7 @@ use Prim.Native.Nat.{ℕ}
 use Rattle.formats.specs.Laid.{Room, Laid, laid_more, room-first, room-rest}
 use Rattle.points.specs.Points.{encode_point}
 use Rattle.orders.specs.Orders.{size, points_of}
-use Rattle.values.specs.ValueLaws.{put-laid}
+use Rattle.values.proofs.ValueLaws.{put-laid}
 use Rattle.records.specs.Record.{encode_extended}
 use Rattle.record_writing.specs.Parts.{front_bytes, record_bytes}
 use Rattle.record_writing.proofs.put_record.Goals as goal
