@@ -9,7 +9,7 @@ use Rattle.formats.specs.SightLaws.{seen-within}
 use Rattle.formats.specs.Told.{told, once-told}
 use Rattle.formats.specs.declared.Outcome.TheVariants.{Failed}
 use Rattle.points.specs.Points.{point}
-use Rattle.lookups.specs.LookupLaws.{point-refused, point-there, failed-seen}
+use Rattle.lookups.proofs.LookupLaws.{point-refused, point-there, failed-seen}
 use Rattle.lookups.proofs.look_at.Goals as goal
 use Rattle.lookups.proofs.look_at.Goals.{After-judge-outcome, After-looked_from, In-Failed}
 

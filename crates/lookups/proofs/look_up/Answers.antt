@@ -8,7 +8,7 @@ use Rattle.formats.specs.Told.{told}
 use Rattle.formats.specs.declared.Outcome.TheVariants.{Done, Failed}
 use Rattle.record_fronts.specs.Front.{front}
 use Rattle.record_fronts.specs.Fronted.{front_in}
-use Rattle.lookups.specs.LookupLaws.{failed-seen}
+use Rattle.lookups.proofs.LookupLaws.{failed-seen}
 use Rattle.lookups.proofs.Looking.{start_fits, promised, answers-failed, points-within, answers-none, answers-point}
 use Rattle.lookups.proofs.look_up.Goals as goal
 use Rattle.lookups.proofs.look_up.Goals.{After-front_at-heading, After-width, In-Failed, In_default}
