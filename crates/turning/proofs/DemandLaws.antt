@@ -106,6 +106,11 @@ module _ (r : Record) where
     abbrev pub in_room : Bool → Turning
     in_room room = cond room (turning (Both (length first) (length second)) (puts template 0 first) (puts body 0 second)) (turning (Refused Room) template body)
 
+    -- where every stage is passed the room decides
+    pub by-stages : put_both first second template body judgement.Passed ≡ in_room (leb (length first) (length template) && leb (length second) (length body))
+    unfolding put_both
+    by-stages = refl
+
     -- both had room, and the template and the body were put at their starts
     pub record Made (t b : List ℕ) (n m : ℕ) : Type 0 where
       pub passed : Passes
@@ -141,7 +146,7 @@ module _ (r : Record) where
     made {t} {b} {n} {m} e = go (judgement_of r) refl e
       where
         go : (j : Judgement) → judgement_of r ≡ j → turning (Both n m) t b ≡ put_both first second template body j → Made t b n m
-        go judgement.Passed h q = by-room (leb (length first) (length template)) (leb (length second) (length body)) (passes h) refl refl q
+        go judgement.Passed h q = by-room (leb (length first) (length template)) (leb (length second) (length body)) (passes h) refl refl (q ∙ by-stages)
         go (judgement.Refused refusal) h q = impossible (cc (ap (λ x. x.answer) q))
 
 -- ---- What refuses
@@ -217,7 +222,7 @@ module _ (r : Record) (valid : Valid r) where
       by_size false q = cc (ap (λ x. x.answer) q)
 
       go : (j : Judgement) → Only j → turning (Refused refusal) t b ≡ put_both (first r) (second r) template body j → IsNotCompact refusal ⊎ (refusal ≡ Room)
-      go judgement.Passed h q = inr (by_size (leb (length (first r)) (length template) && leb (length (second r)) (length body)) q)
+      go judgement.Passed h q = inr (by_size (leb (length (first r)) (length template) && leb (length (second r)) (length body)) (q ∙ by-stages r template body))
       go (judgement.Refused other) h q = let same : refusal ≡ other = cc (ap (λ x. x.answer) q) in inl (h.0, same ∙ h.1)
 
 -- extended data that aren't present have no bytes

@@ -40,16 +40,16 @@ returns-in-Refused c points end e =
     let v = (goal.at.returns-in-Refused j).After-judge_points-judged in
     ap Refused c.in_compact.ensures ∙ sym (rw (fits (goal.at.After-judge_points-judged v).After-count_fits ∙ v.if-not-count_fits.false, judged v points end e ∙ j.in-Refused.is))
 
-pub returns-then-extended : goal.returns-then-extended
-unfolding body_judgement judgement_by stages or_else require compactly
-returns-then-extended c points end e =
-    let p = (goal.at.returns-then-extended c).In_default in
-    let v = (goal.at.In_default p).After-judge_points-judged in
-    rw (fits (goal.at.After-judge_points-judged v).After-count_fits ∙ v.if-not-count_fits.false, judged v points end e ∙ p.in_default.is, c.if-extended.true)
-
 pub returns : goal.returns
 unfolding body_judgement judgement_by stages or_else require compactly exceeds
 returns c points end e =
     let p = (goal.at.returns c).In_default in
     let v = (goal.at.In_default p).After-judge_points-judged in
     rw (fits (goal.at.After-judge_points-judged v).After-count_fits ∙ v.if-not-count_fits.false, judged v points end e ∙ p.in_default.is, c.if-extended.false)
+
+pub returns-then-extended : goal.returns-then-extended
+unfolding body_judgement judgement_by stages or_else require compactly
+returns-then-extended c points end e =
+    let p = (goal.at.returns-then-extended c).In_default in
+    let v = (goal.at.In_default p).After-judge_points-judged in
+    rw (fits (goal.at.After-judge_points-judged v).After-count_fits ∙ v.if-not-count_fits.false, judged v points end e ∙ p.in_default.is, c.if-extended.true)
