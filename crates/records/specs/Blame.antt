@@ -14,7 +14,7 @@ use Rattle.channels.specs.declared.Description.{Description}
 use Rattle.formats.specs.Binary.{bit}
 use Rattle.descriptions.specs.Description as described
 use Rattle.descriptions.specs.Description.{encode_description}
-use Rattle.descriptions.specs.EncodedLaws.{writes-description}
+use Rattle.descriptions.proofs.EncodedLaws.{writes-description}
 use Rattle.descriptions.specs.Rules as rules
 use Rattle.descriptions.specs.FaultLaws.{faults-description, breaks-behind, breaks-alone}
 use Rattle.points.specs.Points.{channels, encode_sample, encode_point, ValidPoint}

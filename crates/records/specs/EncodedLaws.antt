@@ -7,7 +7,7 @@ use Rattle.formats.specs.Reader.{map}
 use Rattle.formats.specs.Number.{digits, writes-number}
 use Rattle.formats.specs.Writes.{Writes, writes_as, writes-map, writes-done, writes_one, writes-times, writes-free, writes-literal, writes_line}
 use Rattle.formats.specs.Binary.{bit}
-use Rattle.descriptions.specs.EncodedLaws.{writes-description}
+use Rattle.descriptions.proofs.EncodedLaws.{writes-description}
 use Rattle.points.specs.Laws.{writes-point}
 use Rattle.channels.specs.Descriptors.{stored}
 use Rattle.channels.specs.declared.Format.TheVariants.{Full}

@@ -34,7 +34,7 @@ use Rattle.values.specs.Values as values
 use Rattle.values.proofs.ValueLaws.{valid-sizes}
 use Rattle.descriptions.specs.Description as descriptions
 use Rattle.descriptions.specs.Description.{includes_xy, neat}
-use Rattle.descriptions.specs.EncodedLaws.{tidy-neat}
+use Rattle.descriptions.proofs.EncodedLaws.{tidy-neat}
 use Rattle.description_judging.specs.Judging as described
 use Rattle.description_judging.specs.Judging.{neat_in}
 use Rattle.description_judging.specs.NamingLaws.{by-numbers}
