@@ -17,7 +17,7 @@ use Rattle.refusals.specs.declared.Refusal.{Refusal}
 use Rattle.refusals.specs.declared.Refusal.TheVariants.{Room}
 use Rattle.refusals.specs.declared.Judgement.{Judgement}
 use Rattle.refusals.specs.declared.Judgement.TheVariants as judgement
-use Rattle.description_judging.specs.JudgingLaws.{passed-valid, valid-passed}
+use Rattle.description_judging.proofs.JudgingLaws.{passed-valid, valid-passed}
 use Rattle.templates.specs.declared.Template.{Template}
 use Rattle.template_writing.specs.declared.Written.TheVariants.{Done, Refused}
 use Rattle.templates.specs.Template.{encode_described, encode_limited, encode, Describes, Limits}
