@@ -26,7 +26,7 @@ use Rattle.channels.specs.declared.Descriptor.{Descriptor}
 use Rattle.channels.specs.Descriptors.{absent}
 use Rattle.descriptions.specs.Description.{flagless, tidy_attribute, tidy_descriptor, fits_attribute, fits_descriptor, every}
 use Rattle.description_judging.specs.Judging.{numbers_of, numbers_from}
-use Rattle.description_judging.specs.JudgingLaws.{both, all-five}
+use Rattle.description_judging.proofs.JudgingLaws.{both, all-five}
 
 -- the bits of a number are zero where the number is
 pub zero_bits : (z : ℤ) → SFits w32 z → eqb (of_z w32 z) 0 ≡ eqb (nat_abs z) 0

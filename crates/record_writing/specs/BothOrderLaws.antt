@@ -15,7 +15,7 @@ use Rattle.refusals.specs.declared.Judgement.{Judgement}
 use Rattle.refusals.specs.declared.Judgement.TheVariants.{Passed, Refused}
 use Rattle.channels.specs.declared.Description.{Description}
 use Rattle.description_judging.specs.Judging as described
-use Rattle.description_judging.specs.NamingLaws.{names-given}
+use Rattle.description_judging.proofs.NamingLaws.{names-given}
 use Rattle.orders.specs.Orders.{size, Same}
 use Rattle.orders.proofs.OrderLaws.{same_points}
 use Rattle.orders.specs.declared.Order.TheVariants.{Point, Column}

@@ -17,7 +17,7 @@ use Rattle.refusals.specs.declared.Judgement.TheVariants.{Passed, Refused}
 use Rattle.channels.specs.declared.Description.{Description}
 use Rattle.descriptions.specs.Description.{includes_xy}
 use Rattle.description_judging.specs.Judging as described
-use Rattle.description_judging.specs.NamingLaws.{by-numbers, tidy-first}
+use Rattle.description_judging.proofs.NamingLaws.{by-numbers, tidy-first}
 use Rattle.values.specs.Values as values
 use Rattle.orders.specs.Orders.{size}
 use Rattle.values.specs.Values.{samples}

@@ -17,7 +17,7 @@ use Rattle.refusals.specs.declared.Refusal.TheVariants.{Room}
 use Rattle.refusals.specs.declared.Judgement.{Judgement}
 use Rattle.refusals.specs.declared.Judgement.TheVariants.{Passed, Refused}
 use Rattle.channels.specs.declared.Description.{Description}
-use Rattle.description_judging.specs.JudgingLaws.{valid-passed}
+use Rattle.description_judging.proofs.JudgingLaws.{valid-passed}
 use Rattle.orders.specs.Orders.{size, values_of}
 use Rattle.orders.proofs.OrderLaws.{points-many, points-again}
 use Rattle.values.proofs.ValueLaws.{valid-sizes, laid-fits}

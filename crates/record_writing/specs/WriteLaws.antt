@@ -22,7 +22,7 @@ use Rattle.values.proofs.ValueLaws.{fits-valid, fits-length}
 use Rattle.orders.specs.declared.Order.{Order}
 use Rattle.descriptions.specs.Description.{encode_description}
 use Rattle.description_judging.specs.Judging as described
-use Rattle.description_judging.specs.JudgingLaws.{passed-valid}
+use Rattle.description_judging.proofs.JudgingLaws.{passed-valid}
 use Rattle.channels.specs.Descriptors.{stored}
 use Rattle.channels.specs.declared.Format.TheVariants.{Full}
 use Rattle.records.specs.Record.{identifier_bytes, version_bytes, opening_byte, encode_extended, encode, ValidExtended, Valid}

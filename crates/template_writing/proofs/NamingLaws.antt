@@ -15,7 +15,7 @@ use Rattle.channels.specs.declared.Description.{Description}
 use Rattle.channels.specs.declared.Format.TheVariants.{Compact}
 use Rattle.descriptions.specs.Description.{includes_xy}
 use Rattle.description_judging.specs.Judging as judging
-use Rattle.description_judging.specs.NamingLaws.{by-numbers, tidy-first}
+use Rattle.description_judging.proofs.NamingLaws.{by-numbers, tidy-first}
 use Rattle.templates.specs.Template.{encode}
 use Rattle.templates.specs.Reading.{saying}
 use Rattle.template_writing.specs.Writing.{description_stage, maximum_stage, in_room, put_where, judgement_of, write_of}

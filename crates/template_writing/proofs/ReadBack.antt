@@ -16,7 +16,7 @@ use Rattle.refusals.specs.Stages.{require-passed, stages-passed}
 use Rattle.refusals.specs.declared.Refusal.TheVariants.{Room}
 use Rattle.refusals.specs.declared.Judgement.{Judgement}
 use Rattle.refusals.specs.declared.Judgement.TheVariants as judgement
-use Rattle.description_judging.specs.JudgingLaws.{passed-valid}
+use Rattle.description_judging.proofs.JudgingLaws.{passed-valid}
 use Rattle.template_writing.specs.declared.Written.TheVariants.{Done, Refused}
 use Rattle.templates.specs.Template.{encode_described, encode_limited, encode, Describes, Limits}
 use Rattle.templates.specs.Reading.{saying, accepted, template_of}

@@ -13,7 +13,7 @@ use Rattle.refusals.specs.Stages.{require, or_else, stages}
 use Rattle.refusals.specs.declared.Refusal.{Refusal}
 use Rattle.refusals.specs.declared.Judgement.{Judgement}
 use Rattle.refusals.specs.declared.Judgement.TheVariants as judgement
-use Rattle.description_judging.specs.JudgingLaws.{valid-passed}
+use Rattle.description_judging.proofs.JudgingLaws.{valid-passed}
 use Rattle.templates.specs.declared.Template.{Template}
 use Rattle.template_writing.specs.declared.Written.TheVariants.{Done, Refused}
 use Rattle.templates.specs.Template.{encode_described, encode_limited, encode, Describes, Limits}

@@ -37,7 +37,7 @@ use Rattle.descriptions.specs.Description.{includes_xy, neat}
 use Rattle.descriptions.proofs.EncodedLaws.{tidy-neat}
 use Rattle.description_judging.specs.Judging as described
 use Rattle.description_judging.specs.Judging.{neat_in}
-use Rattle.description_judging.specs.NamingLaws.{by-numbers}
+use Rattle.description_judging.proofs.NamingLaws.{by-numbers}
 use Rattle.records.specs.Record.{Record, Valid, present, extended_bytes}
 use Rattle.records.specs.Demands.{write-after-read}
 use Rattle.record_points.specs.Pointing.{places_in}

@@ -1,6 +1,6 @@
 -- `description_judging::first_misfit` meets its contract. The invariant: of all numbers is told what is told of those from here on, and the channels from here on are tidy. The measure is the number of channels left.
 use mathlib.Core.Path.{◌≡◌, sym, ap, ◌∙◌}
-use Prim.Native.Nat.{◌+◌, ◌<◌, ◌-◌}
+use Prim.Native.Nat.{◌+◌, ◌<◌}
 use native.Mathlib.Omega.{arith}
 use borrow.Author.Rules.{rules}
 use lib.Dec.{T}

@@ -1,6 +1,5 @@
 -- `description_judging::is_neat` meets its contract. The invariant: all are tidy where those from here on are. The measure is the number of channels left.
 use mathlib.Core.Path.{◌≡◌, sym, ◌∙◌}
-use Prim.Native.Nat.{◌-◌}
 use native.Mathlib.Omega.{arith}
 use borrow.Author.Rules.{rules}
 use lib.ListN.{length}

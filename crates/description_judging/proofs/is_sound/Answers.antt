@@ -1,6 +1,5 @@
 -- `description_judging::is_sound` meets its contract. The invariant: all are sound where those from here on are, and the highest bit of the signs is this channel's. The measure is the number of channels left.
 use mathlib.Core.Path.{◌≡◌, sym, ◌∙◌}
-use Prim.Native.Nat.{◌-◌}
 use native.Mathlib.Omega.{arith}
 use borrow.Author.Rules.{rules}
 use lib.ListN.{length, get_or}

@@ -5,7 +5,7 @@ use Rattle.refusals.specs.Stages.{require, or_else, stages, or-else-last}
 use Rattle.channels.specs.Channel.{is_same, width_of}
 use Rattle.descriptions.specs.Description.{includes_xy, neat, all_fit}
 use Rattle.description_judging.specs.Judging.{neat_in, judgement_of}
-use Rattle.description_judging.specs.JudgingLaws.{both, all_pass}
+use Rattle.description_judging.proofs.JudgingLaws.{both, all_pass}
 use Rattle.description_judging.proofs.judge.Goals as goal
 use Rattle.description_judging.proofs.judge.Goals.{After-is_neat, After-is_sound-sound, Else-not-has_x_and_y, Else-not-is_neat, Else-not-is_same}
 

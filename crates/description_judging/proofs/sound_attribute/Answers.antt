@@ -1,5 +1,5 @@
 -- `description_judging::sound_attribute` meets its contract: its two comparisons together are the two tests, since the bounds are chosen by whether it is given.
-use mathlib.Core.Path.{◌≡◌, ap, ◌∙◌}
+use mathlib.Core.Path.{◌≡◌, ◌∙◌}
 use mathlib.Core.Bool.{Bool, cond, ◌&&◌}
 use Prim.Native.Nat.{ℕ, ◌-◌, ◌^◌}
 use borrow.Author.Rules.{rules}

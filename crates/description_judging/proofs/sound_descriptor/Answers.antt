@@ -46,8 +46,8 @@ module _ (channel : ℕ) where
       let e = scaling-asked (goal.at.Joined-sound_attribute c).After-sound_attribute in
       let v = (goal.at.Joined-sound_attribute c).After-value_of-most in
       elim c.if-sound_attribute.branch as (λ _. Minimum c) [
-        then-sound_attribute w ↦ w.value-is ∙ asked e w.if-sound_attribute.true (w.sound_attribute-then-sound_attribute.ensures _ _ (least channel v h) (most channel v h))
-      | else-sound_attribute w ↦ w.value-is ∙ not-asked e _ w.if-sound_attribute.false
+        | then-sound_attribute w ↦ w.value-is ∙ asked e w.if-sound_attribute.true (w.sound_attribute-then-sound_attribute.ensures _ _ (least channel v h) (most channel v h))
+        | else-sound_attribute w ↦ w.value-is ∙ not-asked e _ w.if-sound_attribute.false
       ]
 
   abbrev Maximum : Joined-sound_attribute-2 → Type 0
@@ -58,8 +58,8 @@ module _ (channel : ℕ) where
       let e = minimum-asked (goal.at.Joined-sound_attribute-2 c).Joined-sound_attribute h in
       let v = (goal.at.Joined-sound_attribute-2 c).After-value_of-most in
       elim c.if-sound_attribute-2.branch as (λ _. Maximum c) [
-        then-sound_attribute-2 w ↦ w.value-is ∙ asked e w.if-sound_attribute-2.true (w.sound_attribute-then-sound_attribute-2.ensures _ _ (least channel v h) (most channel v h))
-      | else-sound_attribute-2 w ↦ w.value-is ∙ not-asked e _ w.if-sound_attribute-2.false
+        | then-sound_attribute-2 w ↦ w.value-is ∙ asked e w.if-sound_attribute-2.true (w.sound_attribute-then-sound_attribute-2.ensures _ _ (least channel v h) (most channel v h))
+        | else-sound_attribute-2 w ↦ w.value-is ∙ not-asked e _ w.if-sound_attribute-2.false
       ]
 
   abbrev Mean : Joined-sound_attribute-3 → Type 0
@@ -70,8 +70,8 @@ module _ (channel : ℕ) where
       let e = maximum-asked (goal.at.Joined-sound_attribute-3 c).Joined-sound_attribute-2 h in
       let v = (goal.at.Joined-sound_attribute-3 c).After-value_of-most in
       elim c.if-sound_attribute-3.branch as (λ _. Mean c) [
-        then-sound_attribute-3 w ↦ w.value-is ∙ asked e w.if-sound_attribute-3.true (w.sound_attribute-then-sound_attribute-3.ensures _ _ (least channel v h) (most channel v h))
-      | else-sound_attribute-3 w ↦ w.value-is ∙ not-asked e _ w.if-sound_attribute-3.false
+        | then-sound_attribute-3 w ↦ w.value-is ∙ asked e w.if-sound_attribute-3.true (w.sound_attribute-then-sound_attribute-3.ensures _ _ (least channel v h) (most channel v h))
+        | else-sound_attribute-3 w ↦ w.value-is ∙ not-asked e _ w.if-sound_attribute-3.false
       ]
 
   abbrev Deviation : Joined-sound_attribute-4 → Type 0
@@ -83,8 +83,8 @@ module _ (channel : ℕ) where
       let e = mean-asked (goal.at.Joined-sound_attribute-4 c).Joined-sound_attribute-3 h in
       let l = (goal.at.Joined-sound_attribute-4 c).After-largest-largest in
       elim c.if-sound_attribute-4.branch as (λ _. Deviation c) [
-        then-sound_attribute-4 w ↦ w.value-is ∙ asked e w.if-sound_attribute-4.true (w.sound_attribute-then-sound_attribute-4.ensures _ false refl (largest-deviation _ _ (omega arith) l.largest-largest.ensures))
-      | else-sound_attribute-4 w ↦ w.value-is ∙ not-asked e _ w.if-sound_attribute-4.false
+        | then-sound_attribute-4 w ↦ w.value-is ∙ asked e w.if-sound_attribute-4.true (w.sound_attribute-then-sound_attribute-4.ensures _ false refl (largest-deviation _ _ (omega arith) l.largest-largest.ensures))
+        | else-sound_attribute-4 w ↦ w.value-is ∙ not-asked e _ w.if-sound_attribute-4.false
       ]
 
 pub returns-then-d : goal.returns-then-d

@@ -1,7 +1,7 @@
 -- `description_writing::put` meets its contract: a refusal decides before the room does, and where there is none all numbers fit.
 use mathlib.Core.Path.{◌≡◌, sym, ◌∙◌}
 use Rattle.description_judging.specs.Judging.{judgement_of}
-use Rattle.description_judging.specs.JudgingLaws.{passed-sound}
+use Rattle.description_judging.proofs.JudgingLaws.{passed-sound}
 use Rattle.description_writing.specs.Write.{put_judged, put_if}
 use Rattle.description_writing.specs.WriteLaws.{put_refused}
 use Rattle.description_writing.proofs.put.Goals as goal

@@ -1,7 +1,7 @@
 -- `description_writing::put_description` meets its contract: the inclusion bits and the channels are laid one behind the other. The invariant of the channels:
 use mathlib.Core.Path.{◌≡◌, ◌∙◌}
 use mathlib.Core.List.{◌++◌, map}
-use Prim.Native.Nat.{◌+◌, ◌-◌}
+use Prim.Native.Nat.{◌+◌}
 use native.Mathlib.Omega.{arith}
 use lib.Dec.{T}
 use lib.ListN.{length, drop, get_or}
