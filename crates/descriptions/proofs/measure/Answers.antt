@@ -51,18 +51,18 @@ loop-channel-preserved c =
     let moved = moved_on c.loop-channel.invariant.3 c.behind_first-bits.ensures in
     let l = c.loop-channel in
     elim c.if-leads.branch [
-      then-leads+in-Done-end w ↦
-        let x = told-done _ (sym w.in-Done-end.is ∙ w.descriptor_end-end.ensures l.channel) in
-        let f = descriptor-flags _ l.channel _ _ x.1 in
-        rw (w.included-is, w.stored-is, w.at-is) (
-          omega arith,
-          set l.invariant.1 l.channel x.0,
-          gone-on _ _ _ _ _ _ _ _ _ l.invariant.2 c.loop-channel-test.true (included i w.if-leads.true) x.1 (sym f.0) (sym f.1),
-          moved,
-        )
-    | else-leads+else-bits-eq0 w ↦
-        rw (w.included-is, w.stored-is, w.at-is)
-        (omega arith, l.invariant.1, gone-absent _ _ _ _ _ _ _ _ _ l.invariant.2 c.loop-channel-test.true (sym (moved-first l.invariant.3 c.loop-channel-test.true) ∙ sym c.leads.ensures ∙ w.if-leads.false), moved)
+      | then-leads+in-Done-end w ↦
+          let x = told-done _ (sym w.in-Done-end.is ∙ w.descriptor_end-end.ensures l.channel) in
+          let f = descriptor-flags _ l.channel _ _ x.1 in
+          rw (w.included-is, w.stored-is, w.at-is) (
+            omega arith,
+            set l.invariant.1 l.channel x.0,
+            gone-on _ _ _ _ _ _ _ _ _ l.invariant.2 c.loop-channel-test.true (included i w.if-leads.true) x.1 (sym f.0) (sym f.1),
+            moved,
+          )
+      | else-leads+else-bits-eq0 w ↦
+          rw (w.included-is, w.stored-is, w.at-is)
+          (omega arith, l.invariant.1, gone-absent _ _ _ _ _ _ _ _ _ l.invariant.2 c.loop-channel-test.true (sym (moved-first l.invariant.3 c.loop-channel-test.true) ∙ sym c.leads.ensures ∙ w.if-leads.false), moved)
     ]
 
 pub returns-after-loop-channel : goal.returns-after-loop-channel

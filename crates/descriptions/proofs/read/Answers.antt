@@ -39,20 +39,20 @@ loop-channel-preserved c =
     let moved = moved_on l.invariant.3 c.behind_first-bits.ensures in
     let signed = moved_on l.invariant.4 c.behind_first-signs.ensures in
     elim c.if-leads.branch [
-      then-leads+in-Done-outcome w ↦
-        let there = descriptor-whole _ l.channel _ _ (sym w.in-Done-outcome.is ∙ w.descriptor_end-outcome.ensures l.channel) in
-        let sign = w.leads-then-leads.ensures ∙ sign-first l.invariant.4 c.loop-channel-test.true in
-        let f = w.descriptor_at-d.ensures l.channel sign ∙ ap (ok w.descriptor_at-d.result) (sym there.end) in
-        rw (w.descriptors-is, w.included-is, w.stored-is, w.outcome-is, w.at-is) (
-          omega arith,
-          gone-on _ _ _ _ _ _ _ _ _ l.invariant.1 c.loop-channel-test.true (included i w.if-leads.true) f refl w.is_stored.ensures,
-          refl,
-          moved,
-          signed,
-        )
-    | else-leads+else-bits-eq0 w ↦
-        rw (w.descriptors-is, w.included-is, w.stored-is, w.outcome-is, w.at-is)
-        (omega arith, gone-absent _ _ _ _ _ _ _ _ _ l.invariant.1 c.loop-channel-test.true (sym (moved-first l.invariant.3 c.loop-channel-test.true) ∙ sym c.leads.ensures ∙ w.if-leads.false), l.invariant.2, moved, signed)
+      | then-leads+in-Done-outcome w ↦
+          let there = descriptor-whole _ l.channel _ _ (sym w.in-Done-outcome.is ∙ w.descriptor_end-outcome.ensures l.channel) in
+          let sign = w.leads-then-leads.ensures ∙ sign-first l.invariant.4 c.loop-channel-test.true in
+          let f = w.descriptor_at-d.ensures l.channel sign ∙ ap (ok w.descriptor_at-d.result) (sym there.end) in
+          rw (w.descriptors-is, w.included-is, w.stored-is, w.outcome-is, w.at-is) (
+            omega arith,
+            gone-on _ _ _ _ _ _ _ _ _ l.invariant.1 c.loop-channel-test.true (included i w.if-leads.true) f refl w.is_stored.ensures,
+            refl,
+            moved,
+            signed,
+          )
+      | else-leads+else-bits-eq0 w ↦
+          rw (w.descriptors-is, w.included-is, w.stored-is, w.outcome-is, w.at-is)
+          (omega arith, gone-absent _ _ _ _ _ _ _ _ _ l.invariant.1 c.loop-channel-test.true (sym (moved-first l.invariant.3 c.loop-channel-test.true) ∙ sym c.leads.ensures ∙ w.if-leads.false), l.invariant.2, moved, signed)
     ]
 
 pub returns-after-loop-channel : goal.returns-after-loop-channel

@@ -94,14 +94,14 @@ pub loop-channel-preserved : goal.loop-channel-preserved
 loop-channel-preserved c =
     let t = (goal.at.loop-channel-preserved c).At-loop-channel in
     elim c.if-stored-channel.branch [
-      then-stored-channel w ↦
-    let z : w.sample_size-at.result ≡ sample_size 2 t.loop-channel.channel = size_of t.loop-channel.channel w.sample_size-at.ensures in
-    rw (w.values-is, w.at-is, w.from-is) (
-      omega arith,
-      rw z
-          (gone-next _ _ _ _ _ _ _ _ _ _ t.loop-channel.invariant.1 (omega (arith, sixteen t)) w.if-stored-channel.true (start t).args.order (step_is t) (stride-is t) (start t).requires.0 _ (rw (wide t) at w.fill_channel.ensures)),
-    )
-    | else-stored-channel w ↦ rw (w.values-is, w.at-is, w.from-is) (omega arith, gone-past _ _ _ _ _ _ _ _ _ _ t.loop-channel.invariant.1 (omega (arith, sixteen t)) w.if-stored-channel.false)
+      | then-stored-channel w ↦
+          let z : w.sample_size-at.result ≡ sample_size 2 t.loop-channel.channel = size_of t.loop-channel.channel w.sample_size-at.ensures in
+          rw (w.values-is, w.at-is, w.from-is) (
+            omega arith,
+            rw z
+                (gone-next _ _ _ _ _ _ _ _ _ _ t.loop-channel.invariant.1 (omega (arith, sixteen t)) w.if-stored-channel.true (start t).args.order (step_is t) (stride-is t) (start t).requires.0 _ (rw (wide t) at w.fill_channel.ensures)),
+          )
+      | else-stored-channel w ↦ rw (w.values-is, w.at-is, w.from-is) (omega arith, gone-past _ _ _ _ _ _ _ _ _ _ t.loop-channel.invariant.1 (omega (arith, sixteen t)) w.if-stored-channel.false)
     ]
 
 pub shape_of-values : goal.shape_of-values
