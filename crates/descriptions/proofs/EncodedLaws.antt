@@ -1,28 +1,25 @@
 -- What reading takes for a description is the encoding of a valid one, and is tidy.
-use Rattle.std.specs.Prelude.{◌≡◌, refl, Bool, not, ◌&&◌, ◌||◌, T, eqb, ℤ, pos, negsuc, nat_abs, length, get_or}
-use Rattle.std.proofs.Math.Path.{sym, ap, ap₂}
-use Rattle.std.proofs.Common.{subst, ◌∙◌, eqb→eq}
-use Rattle.std.proofs.Math.Bool.{true, false, cond}
-use mathlib.Core.List.{List, [], ◌∷◌, map, append-nil, append_assoc}
-use Prim.Native.Nat.{ℕ, zero, suc, ◌+◌, ◌-◌, ◌*◌, ◌/◌, ◌%◌, ◌<◌}
+use Rattle.std.specs.Prelude.{◌≡◌, refl, Bool, T, length, get_or}
+use Rattle.std.proofs.Math.Path.{sym, ap}
+use Rattle.std.proofs.Common.{subst, ◌∙◌}
+use Rattle.std.proofs.Math.Bool.{true, false}
+use mathlib.Core.List.{List, append-nil}
+use Prim.Native.Nat.{ℕ, ◌+◌, ◌*◌, ◌/◌, ◌%◌, ◌<◌}
 use native.Mathlib.Omega.{arith}
 use Rattle.std.specs.Float.Ieee.Fits.{and_i, and_l, and_r}
-use borrow.Author.Tests.{not-true}
 use Rattle.std.proofs.lemmas.List.{length-map}
 use Rattle.std.proofs.Math.ListN.{get_or-map}
-use Rattle.formats.specs.Reader.{Reader, done, any}
-use Rattle.formats.specs.Number.{number, writes-number, two_digits}
-use Rattle.formats.specs.Writes.{Writes, written_read, Each, writes_as, writes-map, writes-done, writes_one, writes-each, writes_line}
-use Rattle.channels.specs.Channel.{channels, signed_of, width_of, from}
-use Rattle.channels.specs.Stored.{value_of, stored_of, fits, stored-value, value-fits, stored-below, value-stored}
-use Rattle.channels.specs.declared.Attribute.{Attribute}
+use Rattle.formats.specs.Reader.{any}
+use Rattle.formats.specs.Number.{two_digits}
+use Rattle.formats.specs.Writes.{Writes, written_read, Each, writes_as, writes-done, writes_one, writes-each, writes_line}
+use Rattle.channels.specs.Channel.{channels, width_of, from}
 use Rattle.channels.specs.declared.Descriptor.{Descriptor}
 use Rattle.channels.specs.declared.Description.{Description}
 use Rattle.channels.specs.declared.Format.{Format}
 use Rattle.formats.specs.Binary.{bit, binary, bits, binary-bits, bits-binary, binary-below}
-use Rattle.channels.specs.Descriptors.{no_attribute, absent}
+use Rattle.channels.specs.Descriptors.{absent}
 use Rattle.descriptions.specs.Marks.{ReadsTidy}
-use Rattle.descriptions.specs.Description.{has_xy, reserved, attribute, descriptor, includes, channel_of, description, encode_attribute, descriptor_byte, encode_descriptor, encode_channel, encode_description, includes_xy, tidy_attribute, flagless, tidy_descriptor, fits_attribute, fits_descriptor, every, neat, all_fit, tidy, Valid}
+use Rattle.descriptions.specs.Description.{has_xy, description, encode_description, includes_xy, neat, all_fit, tidy, Valid}
 use Rattle.descriptions.specs.EncodedLaws.{inclusions, GoodChannel, writes-channel, Channels, all_of, of-all}
 
 -- ---- The description

@@ -1,7 +1,7 @@
 -- A channel description: which channels a record has, and what it says of each (7.3.4; 8.2.2 for a template).
 -- `w` is the width of a minimum, a maximum, a mean and a deviation: two bytes in a record, one in a template.
 use Rattle.std.specs.Prelude.{◌≡◌, Bool, true, false, not, cond, ◌&&◌, ◌||◌, List, [], ◌∷◌, ◌++◌, ℕ, suc, ◌+◌, ◌-◌, ◌*◌, T, eqb, nat_abs, length, get_or}
-use Rattle.formats.specs.Reader.{Test, Reader, done, one, any, each, ◌>>=◌, ◌>>◌}
+use Rattle.formats.specs.Reader.{Test, Reader, done, one, any, each, ◌>>=◌}
 use Rattle.formats.specs.Number.{number, digits}
 use Rattle.formats.specs.Writes.{encode_each}
 use Rattle.channels.specs.Channel.{X, Y, channels, signed_of, width_of}

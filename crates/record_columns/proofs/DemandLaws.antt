@@ -1,5 +1,5 @@
 -- The claims of `Demands` hold: by what reading the slice answers, and by the laws of both orders.
-use Rattle.std.specs.Prelude.{◌≡◌, refl, Bool, true, false, cond, List, ◌++◌, ℕ, ◌-◌, ◌*◌, eqb, ltb, ℤ, length, take, drop}
+use Rattle.std.specs.Prelude.{◌≡◌, refl, Bool, true, false, cond, List, ◌++◌, ℕ, ◌*◌, eqb, ltb, ℤ, length, take, drop}
 use Rattle.std.proofs.Common.{sym, ap, subst, ◌∙◌, arith, take_all}
 use borrow.Author.Tests.{le-ltb, eq-eqb, ne_eqb}
 use Rattle.formats.specs.Bytes.{impossible}
@@ -21,7 +21,6 @@ use Rattle.record_reading.specs.Verdict.{verdict_from, judged, unjudged, judged_
 use Rattle.record_reading.specs.declared.Verdict.TheVariants as verdict
 use Rattle.record_writing.specs.Write.{record_in, write_in}
 use Rattle.record_writing.specs.RoundTrips as trips
-use Rattle.record_writing.specs.declared.Written.TheVariants as written
 use Rattle.demands.specs.Reading.{extended-told}
 use Rattle.demands.specs.RoundTripLaws.{Spoken, spoken, in_a_row}
 use Rattle.demands.specs.Saying.{numbers_of}

@@ -1,16 +1,14 @@
 -- `descriptions::read` meets its contract. The invariant: the arrays have the descriptors of the channels so far and their flags, and say nothing of those left; the highest of the inclusion bits, and of the signs, is this channel's.
 use mathlib.Core.Path.{◌≡◌, refl, sym, ap, ◌∙◌}
 use mathlib.Core.Bool.{true}
-use mathlib.Core.Logic.{⊎_elim}
-use Prim.Native.Nat.{ℕ, ◌-◌}
+use Prim.Native.Nat.{◌-◌}
 use native.Mathlib.Omega.{arith}
 use borrow.Author.Rules.{rules}
 use Rattle.formats.specs.Reader.{ok, read_at}
 use Rattle.channels.specs.BitLaws.{moved_none, moved-first, moved_on, moved_out, signs-none, sign-first}
-use Rattle.channels.specs.Channel.{width_of}
 use Rattle.descriptions.specs.Description.{includes, description}
 use Rattle.descriptions.specs.Read.{nothing, described, channels_from}
-use Rattle.descriptions.proofs.Measuring.{Whole, descriptor-whole}
+use Rattle.descriptions.proofs.Measuring.{descriptor-whole}
 use Rattle.descriptions.proofs.Reading.{gone-none, gone-absent, gone-on, gone-failed, gone-all, gone-out, behind-done, behind-failed}
 use Rattle.descriptions.proofs.read.Goals as goal
 use Rattle.descriptions.proofs.read.Goals.{After-leads, At-loop-channel, then-leads+in-Done-outcome, else-leads+else-bits-eq0}

@@ -1,6 +1,5 @@
 -- `record_columns::fill` meets its contract. The invariant: the numbers of the stored channels that are gone through stand where they belong.
 use Prim.Native.Nat.{◌-◌, ◌≤◌}
-use Rattle.orders.specs.Orders.{step, stride}
 use Rattle.record_columns.proofs.Filling.{Gone}
 use Rattle.record_columns.proofs.fill.Given as goal
 
