@@ -11,8 +11,10 @@ use borrow.Author.Tests.{not-true}
 use Rattle.std.proofs.lemmas.List.{length-map}
 use Rattle.std.proofs.Math.ListN.{get_or-map}
 use Rattle.formats.specs.Reader.{Reader, done, any}
-use Rattle.formats.specs.Number.{number, writes-number, two_digits}
-use Rattle.formats.specs.Writes.{Writes, written_read, Each, writes_as, writes-map, writes-done, writes_one, writes-each, writes_line}
+use Rattle.formats.specs.Number.{number, two_digits}
+use Rattle.formats.proofs.NumberLaws.{writes-number}
+use Rattle.formats.specs.Writes.{Writes, Each, writes_as, writes-done, writes_one}
+use Rattle.formats.proofs.WritesLaws.{written_read, writes-map, writes-each, writes_line}
 use Rattle.channels.specs.Channel.{channels, signed_of, width_of, from}
 use Rattle.channels.specs.Stored.{value_of, stored_of, fits, stored-value, value-fits, stored-below, value-stored}
 use Rattle.channels.specs.declared.Attribute.{Attribute}

@@ -10,8 +10,9 @@ use denote.Enum.Declared.{tag_of}
 use lib.IntN.{ℤ}
 use lib.ListN.{length, get_or}
 use Rattle.formats.specs.Reader.{ok, read_at, times}
-use Rattle.formats.specs.Compose.{at-within}
-use Rattle.formats.specs.Fixed.{times-length, fixed-times}
+use Rattle.formats.proofs.Ends.{at-within}
+use Rattle.formats.specs.Fixed.{times-length}
+use Rattle.formats.proofs.FixedLaws.{fixed-times}
 use Rattle.channels.specs.declared.Place.{Place}
 use Rattle.channels.specs.declared.Place.TheVariants.{Absent, Constant, Number}
 use Rattle.channels.specs.contracts.Place as place
