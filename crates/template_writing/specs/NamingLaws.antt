@@ -6,7 +6,7 @@ use Rattle.formats.specs.Bytes.{impossible}
 use Rattle.formats.specs.Lent.{writing}
 use Rattle.refusals.specs.Stages.{or_else, stages}
 use Rattle.refusals.specs.Ranges.{first_misfit, FirstOutside}
-use Rattle.refusals.specs.RangeLaws.{joined, named-first, first-named}
+use Rattle.refusals.proofs.RangeLaws.{joined, named-first, first-named}
 use Rattle.refusals.specs.declared.Quantity.{Quantity}
 use Rattle.refusals.specs.declared.Refusal.TheVariants.{OutOfRange, Room}
 use Rattle.refusals.specs.declared.Judgement.{Judgement}
