@@ -7,10 +7,10 @@ use Rattle.std.proofs.Math.Decide.{dec_le}
 use Rattle.std.proofs.lemmas.Bool.{eqb-false}
 use Rattle.formats.specs.Bytes.{Bytes}
 use Rattle.formats.specs.Reader.{ok, bad, run, times}
-use Rattle.formats.specs.Law.{whole}
+use Rattle.formats.proofs.Lawful.{whole}
 use Rattle.formats.specs.Compose.{at-start}
-use Rattle.formats.specs.Fixed.{fixed-times}
-use Rattle.formats.specs.Faults.{faults-times}
+use Rattle.formats.proofs.FixedLaws.{fixed-times}
+use Rattle.formats.proofs.FaultsLaws.{faults-times}
 use Rattle.points.specs.Points.{point, width}
 use Rattle.points.specs.Laws.{writes-point, writes-points, points-length, fixed-point}
 use Rattle.points.specs.FaultLaws.{faults-point}

@@ -10,7 +10,8 @@ use Rattle.std.proofs.Math.Dec.{ltb}
 use Rattle.std.proofs.Math.ListN.{length, drop}
 use Rattle.formats.specs.Bytes.{Bytes, bytes-append, impossible}
 use Rattle.formats.specs.Reader.{Answer, ok, short, bad, times}
-use Rattle.formats.specs.Law.{Reads, short-iff, short-of}
+use Rattle.formats.specs.Law.{Reads}
+use Rattle.formats.proofs.Lawful.{short-iff, short-of}
 use Rattle.formats.specs.Put.{puts, puts-is}
 use Rattle.formats.specs.Lent.{Writing, writing}
 use Rattle.refusals.specs.Table.{named, refusal_of}

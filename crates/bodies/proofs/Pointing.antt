@@ -11,8 +11,10 @@ use lib.IntN.{ℤ}
 use lib.ListN.{length, replicate}
 use Rattle.formats.specs.Bytes.{impossible}
 use Rattle.formats.specs.Reader.{Answer, ok, short, bad, read_at, times}
-use Rattle.formats.specs.Compose.{at-start, at-within}
-use Rattle.formats.specs.Fixed.{times-length, fixed-times}
+use Rattle.formats.specs.Compose.{at-start}
+use Rattle.formats.proofs.Ends.{at-within}
+use Rattle.formats.specs.Fixed.{times-length}
+use Rattle.formats.proofs.FixedLaws.{fixed-times}
 use Rattle.refusals.specs.declared.Refusal.TheVariants.{LeftOver, NoPoint, Maximum}
 use Rattle.refusals.specs.declared.Judgement.{Judgement}
 use Rattle.refusals.specs.declared.Judgement.TheVariants as judgement

@@ -3,7 +3,7 @@ use Rattle.std.specs.Prelude.{◌≡◌, ◌↔◌, ◌≢◌, ◌⊎◌, Bool, 
 use Rattle.std.proofs.Common.{sym, ap, ◌∙◌, arith, take_all}
 use Rattle.formats.specs.Bytes.{Bytes, bytes_drop}
 use Rattle.formats.specs.Reader.{bad, run, read_at}
-use Rattle.formats.specs.Law.{whole}
+use Rattle.formats.proofs.Lawful.{whole}
 use Rattle.refusals.specs.declared.Refusal.{Refusal}
 use Rattle.refusals.specs.declared.Refusal.TheVariants.{Short, LeftOver}
 use Rattle.records.specs.Record.{full_record, IsRecord}

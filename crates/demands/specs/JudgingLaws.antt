@@ -10,7 +10,7 @@ use borrow.Author.Tests.{ltb-true, ltb-false, lt-ltb, le-ltb}
 use Rattle.std.proofs.Math.Dec.{ltb}
 use Rattle.formats.specs.Bytes.{Bytes, impossible}
 use Rattle.formats.specs.Reader.{Answer, ok, short, bad, after, run}
-use Rattle.formats.specs.Law.{reads-append}
+use Rattle.formats.proofs.Lawful.{reads-append}
 use Rattle.formats.specs.declared.Failure.TheVariants as failure
 use Rattle.refusals.specs.Table.{number_of, place_of, refusal_of}
 use Rattle.refusals.specs.Laws.{bad-refusal}

@@ -5,7 +5,7 @@ use mathlib.Core.List.{List, [], flatten}
 use Rattle.std.proofs.Math.Option.{none, some}
 use Rattle.std.specs.Borrow.{Bor}
 use Rattle.formats.specs.Bytes.{Bytes}
-use Rattle.formats.specs.Law.{whole}
+use Rattle.formats.proofs.Lawful.{whole}
 use Rattle.formats.specs.Reader.{Answer, ok, run}
 use Rattle.channels.specs.declared.Description.{Description}
 use Rattle.channels.specs.declared.Place.{Place}

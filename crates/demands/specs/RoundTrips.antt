@@ -4,7 +4,7 @@ use Rattle.std.proofs.Common.{sym, ◌∙◌, arith, length-append, length-take-
 use Rattle.std.proofs.Math.Path.{ap}
 use Rattle.std.specs.Borrow.{Bor}
 use Rattle.formats.specs.Bytes.{Bytes}
-use Rattle.formats.specs.Law.{reads-take}
+use Rattle.formats.proofs.Lawful.{reads-take}
 use Rattle.formats.specs.Reader.{ok, run}
 use Rattle.refusals.specs.declared.Refusal.TheVariants.{NoPoint}
 use Rattle.channels.specs.declared.Description.{Description}

@@ -5,7 +5,7 @@ use Rattle.formats.specs.Reader as reader
 use Rattle.formats.specs.Reader.{next, run, bind, each, times, one, free, literal}
 use Rattle.formats.specs.Number as numbers
 use Rattle.formats.specs.Number.{number}
-use Rattle.formats.specs.Writes.{writes-literal}
+use Rattle.formats.proofs.WritesLaws.{writes-literal}
 use Rattle.channels.specs.Channel.{signed_of}
 use Rattle.channels.specs.Stored.{offset, value_of}
 use Rattle.descriptions.specs.Description.{attribute, descriptor, includes, channel_of, description}

@@ -6,7 +6,7 @@ use Rattle.std.proofs.Math.ListN.{length, drop}
 use Rattle.std.proofs.Math.Seq.{drop_at}
 use Rattle.formats.specs.Put.{puts, puts-is}
 use Rattle.formats.specs.Reader.{ok, after, read_at}
-use Rattle.formats.specs.Writes.{read-written}
+use Rattle.formats.proofs.WritesLaws.{read-written}
 use Rattle.formats.specs.Lent.{writing}
 use Rattle.refusals.specs.declared.Refusal.{Refusal}
 use Rattle.refusals.specs.declared.Refusal.TheVariants.{Room}

@@ -11,7 +11,8 @@ use Rattle.std.proofs.lemmas.List.{length-map}
 use Rattle.std.proofs.Math.ListN.{get_or-map}
 use Rattle.formats.specs.Reader.{any}
 use Rattle.formats.specs.Number.{two_digits}
-use Rattle.formats.specs.Writes.{Writes, written_read, Each, writes_as, writes-done, writes_one, writes-each, writes_line}
+use Rattle.formats.specs.Writes.{Writes, Each, writes_as, writes-done, writes_one}
+use Rattle.formats.proofs.WritesLaws.{written_read, writes-each, writes_line}
 use Rattle.channels.specs.Channel.{channels, width_of, from}
 use Rattle.channels.specs.declared.Descriptor.{Descriptor}
 use Rattle.channels.specs.declared.Description.{Description}

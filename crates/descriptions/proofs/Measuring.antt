@@ -14,7 +14,8 @@ use borrow.Author.Tests.{eqb-true, eqb-false}
 use Rattle.formats.specs.Binary.{bit}
 use Rattle.formats.specs.Reader.{Reader, done, ok, short, mapped, read_at, bind, one}
 use Rattle.formats.specs.Compose.{at_done, at-pass, at-bind-ok}
-use Rattle.formats.specs.Number.{number, at-number, at-number-short}
+use Rattle.formats.specs.Number.{number, at-number}
+use Rattle.formats.proofs.NumberLaws.{at-number-short}
 use Rattle.formats.specs.Told.{told, told-mapped, told-done, told-failed, at-bind-failed}
 use Rattle.formats.specs.Jump.{Jumps, ends_there, ends-short, jumps-done, jumps-bind}
 use Rattle.channels.specs.Channel.{signed_of}

@@ -9,8 +9,10 @@ use native.Mathlib.Omega.{arith}
 use Rattle.std.specs.Float.Ieee.Fits.{and_i, and_l, and_r}
 use borrow.Author.Tests.{not-true}
 use Rattle.formats.specs.Reader.{Reader, done, any}
-use Rattle.formats.specs.Number.{number, writes-number}
-use Rattle.formats.specs.Writes.{Writes, Each, writes_as, writes-map, writes-done, writes_one, writes_line}
+use Rattle.formats.specs.Number.{number}
+use Rattle.formats.proofs.NumberLaws.{writes-number}
+use Rattle.formats.specs.Writes.{Writes, Each, writes_as, writes-done, writes_one}
+use Rattle.formats.proofs.WritesLaws.{writes-map, writes_line}
 use Rattle.channels.specs.Channel.{signed_of, from}
 use Rattle.channels.specs.Stored.{value_of, stored_of, fits, stored-value, value-fits, stored-below, value-stored}
 use Rattle.channels.specs.declared.Attribute.{Attribute}

@@ -6,7 +6,8 @@ use Rattle.std.proofs.lemmas.Bool.{not-false}
 use Rattle.formats.specs.Bytes.{impossible}
 use Rattle.formats.specs.Reader.{done, any}
 use Rattle.formats.specs.Writes.{Writes, writes_as, writes_one}
-use Rattle.formats.specs.Faults.{Faults, Never, Then, here, later, InPart, faults-as, faults-never, faults-last, faults-bind, faults-one, faults-each, never_done, never-any, never-bind, never-number}
+use Rattle.formats.specs.Faults.{Faults, Never, Then, here, later, InPart, faults-as, faults-never, faults-last, never_done, never-bind}
+use Rattle.formats.proofs.FaultsLaws.{faults-bind, faults-one, faults-each, never-any, never-number}
 use Rattle.channels.specs.Channel.{channels, signed_of, width_of}
 use Rattle.channels.specs.declared.Format.{Format}
 use Rattle.formats.specs.Binary.{bit}

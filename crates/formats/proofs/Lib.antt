@@ -1,1 +1,9 @@
 pub mod Products
+pub mod Lawful
+pub mod Settled
+pub mod Ends
+pub mod WritesLaws
+pub mod NumberLaws
+pub mod FaultsLaws
+pub mod FixedLaws
+pub mod SightLaws

@@ -4,12 +4,12 @@ use Rattle.std.proofs.Math.Path.{refl, sym, ap}
 use Rattle.std.proofs.Common.{◌∙◌, zero-add, suc-add, add_assoc, not-suc-le-zero, add-one, drop_of_length-le, drop-cons, drop-drop}
 use Rattle.std.proofs.Math.Bool.{true, false}
 use mathlib.Core.List.{List, [], ◌∷◌}
-use Prim.Native.Nat.{ℕ, zero, suc, ◌+◌, ◌-◌, ◌≤◌, ◌<◌}
+use Prim.Native.Nat.{ℕ, zero, suc, ◌+◌, ◌≤◌, ◌<◌}
 use native.Mathlib.Omega.{arith}
 use Rattle.std.proofs.Math.ListN.{length, length-drop}
 use Rattle.formats.specs.Bytes.{impossible}
 use Rattle.formats.specs.Reader.{Test, Reader, done, byte, Answer, ok, short, bad, next, after, mapped, and_then, run, read_at, bind, map, each, times, one, any, free}
-use Rattle.formats.specs.Law.{run-pass, run-fail, whole}
+use Rattle.formats.specs.Law.{run-pass, run-fail}
 
 -- ---- Answers, counted from elsewhere
 
@@ -146,21 +146,6 @@ then_ok (ok u m) k e = (u, m, refl, e)
 then_ok short k e = impossible (cc)
 then_ok (bad j p) k e = impossible (cc)
 
--- a reader that starts in a string ends in it, no earlier
-module _ {A : Type 0} (r : Reader A) (s : List ℕ) (at : ℕ) where
-  within_by : {v : A} {n : ℕ} (x : Answer A) → run r (drop at s) ≡ x → after at x ≡ ok v n → at ≤ length s → (at ≤ n) × (n ≤ length s)
-  unfolding after
-  within_by {v} {n} (ok u m) e q h =
-      let z : at + m ≡ n = cc in
-      let g : m ≤ length s - at = rw length-drop at (whole r (drop at s) e).within in
-      omega arith
-  within_by short e q h = impossible (cc)
-  within_by (bad k p) e q h = impossible (cc)
-
-  pub at-within : {v : A} {n : ℕ} → read_at r s at ≡ ok v n → at ≤ length s → (at ≤ n) × (n ≤ length s)
-  unfolding read_at
-  at-within e h = within_by (run r (drop at s)) refl e h
-
 module _ {A B : Type 0} (r : Reader A) (k : A → Reader B) (s : List ℕ) where
   pub bind_ok : {v : A} {n : ℕ} → run r s ≡ ok v n → run (bind r k) s ≡ read_at (k v) s n
   unfolding and_then
@@ -191,7 +176,3 @@ module _ (n : ℕ) (s : List ℕ) (at : ℕ) where
   pub at-free : at + n ≤ length s → read_at (free n) s at ≡ ok (take n (drop at s)) (at + n)
   unfolding read_at after
   at-free h = ap (after at) (free-ok n (drop at s) (simp length-drop (omega arith)))
-
-  pub at-free-short : length s - at < n → read_at (free n) s at ≡ short
-  unfolding read_at after
-  at-free-short h = ap (after at) (free-short n (drop at s) (simp length-drop (omega arith)))

@@ -1,7 +1,7 @@
 -- Numbers of n bytes, the most significant first.
-use Rattle.std.specs.Prelude.{◌≡◌, refl, List, [], ◌∷◌, ◌++◌, ℕ, zero, suc, ◌+◌, ◌-◌, ◌*◌, ◌/◌, ◌%◌, ◌^◌, ◌≤◌, ◌<◌, length, drop, get_or}
+use Rattle.std.specs.Prelude.{◌≡◌, refl, List, [], ◌∷◌, ◌++◌, ℕ, zero, suc, ◌+◌, ◌*◌, ◌/◌, ◌%◌, ◌≤◌, ◌<◌, length, drop, get_or}
 use Rattle.std.proofs.Math.Path.{ap}
-use Rattle.std.proofs.Common.{◌∙◌, pow-suc, length-append, drop_of_length-le, drop-cons}
+use Rattle.std.proofs.Common.{◌∙◌, length-append, drop_of_length-le, drop-cons}
 use Rattle.std.proofs.Math.Logic.{by_cases}
 use Rattle.std.proofs.Math.Decide.{dec_lt}
 use native.Mathlib.Omega.{arith}
@@ -11,7 +11,6 @@ use Rattle.formats.specs.Reader.{Reader, done, ok, short, after, run, read_at, b
 use Rattle.formats.specs.Compose.{bind_ok}
 use Rattle.formats.specs.Told.{run-bind-failed}
 use Rattle.formats.specs.declared.Failure.TheVariants.{Short}
-use Rattle.formats.specs.Writes.{Writes, writes-done, writes_one, writes-bind, writes-map, writes_as}
 
 unfoldable pub number : ℕ → Reader ℕ
 number zero = done 0
@@ -29,7 +28,7 @@ value (suc n) s = value n s * 256 + get_or s n 0
 pub length_digits : (n v : ℕ) → length (digits n v) ≡ n
 unfolding digits
 length_digits zero v = refl
-length_digits (suc n) v = length-append (digits n (v / 256)) _ ∙ rw (length_digits n (v / 256)) (omega arith)
+length_digits (suc n) v = omega (arith, length_digits n (v / 256), length-append (digits n (v / 256)) (v % 256 ∷ []))
 
 digit_ok : (n a : ℕ) (s : List ℕ) → n < length s → run (map (λ b. a * 256 + b) (one any)) (drop n s) ≡ ok (a * 256 + get_or s n 0) 1
 unfolding run one map bind next
@@ -57,10 +56,6 @@ module _ (n : ℕ) (s : List ℕ) (at : ℕ) where
   unfolding read_at after
   at-number h = ap (after at) (number_ok n (drop at s) (simp length-drop (omega arith)))
 
-  pub at-number-short : length s - at < n → read_at (number n) s at ≡ short
-  unfolding read_at after
-  at-number-short h = ap (after at) (number_short n (drop at s) (simp length-drop (omega arith)))
-
 -- the number that one byte makes, and two, and three
 module _ (s : List ℕ) (at : ℕ) where
   pub value-one : value 1 (drop at s) ≡ 0 * 256 + get_or s at 0
@@ -83,13 +78,3 @@ one-digit n = refl
 pub two_digits : (n : ℕ) → n < 65536 → digits 2 n ≡ n / 256 ∷ n % 256 ∷ []
 unfolding digits
 two_digits n h = let e : n / 256 % 256 ≡ n / 256 = omega arith in rw e
-
-pub writes-number : (n : ℕ) → Writes (number n) (digits n) (λ v. v < 256 ^ n)
-unfolding number digits
-writes-number zero = writes_as (writes-done 0) (λ v e. (omega arith, refl)) (λ v h. omega arith)
-writes-number (suc n) =
-    writes-bind
-    (writes-number n)
-    (λ a h. writes-map (writes_one any) (λ b. a * 256 + b) (λ u. u % 256) (λ b q. omega arith))
-    (λ a u h q. let e : a ≡ u / 256 = omega arith in (rw (pow-suc 256 n) (omega arith), rw e))
-    (λ u h. (u / 256, omega (arith, rw (pow-suc 256 n) at h), ((omega arith, refl), omega arith)))

@@ -1,19 +1,15 @@
 -- What code tells of an answer: how it ended, and where. The laws take a walk over a format from part to part:
 -- what the whole is told as from here is what the rest is told as from the next place.
-use Rattle.std.specs.Prelude.{◌≡◌, Bool, true, false, cond, T, eqb, leb, ltb, length, get_or}
+use Rattle.std.specs.Prelude.{◌≡◌, cond, eqb, leb, length, get_or}
 use Rattle.std.proofs.Math.Path.{refl, ap}
-use Rattle.std.proofs.Common.{sym, ◌∙◌}
-use Rattle.std.proofs.Math.Logic.{by_cases}
+use Rattle.std.proofs.Common.{◌∙◌}
 use mathlib.Core.List.{List, [], ◌∷◌}
 use Prim.Native.Nat.{ℕ, zero, suc, ◌+◌, ◌-◌, ◌≤◌, ◌<◌}
-use Rattle.std.proofs.Math.Decide.{dec_lt}
 use native.Mathlib.Omega.{arith}
-use Rattle.std.proofs.Math.Pow.{are_bytes}
-use Rattle.std.specs.Float.Ieee.Fits.{and_r}
-use borrow.Author.Tests.{le-leb, lt-leb, eq-eqb, ne_eqb, eqb-true, eqb-false}
+use borrow.Author.Tests.{le-leb, lt-leb, eq-eqb, ne_eqb}
 use Rattle.formats.specs.Bytes.{impossible}
-use Rattle.formats.specs.Reader.{Reader, Answer, done, ok, short, bad, mapped, and_then, run, read_at, bind, map, each, times, literal}
-use Rattle.formats.specs.Compose.{run_bind, at_done, at-short, at-pass, at-fail, at-bind, at_map, at-times, at-within, at-bind-ok}
+use Rattle.formats.specs.Reader.{Reader, Answer, done, ok, short, bad, mapped, and_then, run, read_at, bind, map, each, times}
+use Rattle.formats.specs.Compose.{run_bind, at_done, at-bind, at_map, at-times, at-bind-ok}
 use Rattle.formats.specs.declared.Failure.{Failure}
 use Rattle.formats.specs.declared.Failure.TheVariants.{Short, Bad}
 use Rattle.formats.specs.declared.Outcome.{Outcome}
@@ -122,25 +118,6 @@ module _ (step : ℕ → Outcome) (at i n : ℕ) where
   unfolding repeated
   repeated-none h = let z : n - i ≡ 0 = omega arith in rw z
 
--- a part that starts in a string ends in it
-pub done-within : {A : Type 0} (r : Reader A) (s : List ℕ) (at : ℕ) {n : ℕ} → at ≤ length s → Done n ≡ told (read_at r s at) → (at ≤ n) × (n ≤ length s)
-done-within r s at h e = at-within r s at (told-done (read_at r s at) e).1 h
-
--- n equal parts are n steps
-module _ {A : Type 0} (r : Reader A) (s : List ℕ) (step : ℕ → Outcome) (one : (at : ℕ) → at ≤ length s → told (read_at r s at) ≡ step at) where
-  times-by : (n at : ℕ) (x : Outcome) → at ≤ length s → told (read_at r s at) ≡ x → ((m : ℕ) → m ≤ length s → told (read_at (times n r) s m) ≡ repeated step n m)
-      → told (read_at (times (suc n) r) s at) ≡ then_told x (repeated step n)
-  unfolding times then_told
-  times-by n at (Done m) h e rest =
-      let x = told-done (read_at r s at) (sym e) in
-      bind_done r _ s at x.1 ∙ map-told (λ vs. x.0 ∷ vs) (times n r) s m ∙ rest m (done-within r s at h (sym e)).1
-  times-by n at (Failed f) h e rest = bind-failed r _ s at (sym e)
-
-  pub times-repeated : (n at : ℕ) → at ≤ length s → told (read_at (times n r) s at) ≡ repeated step n at
-  unfolding told times repeated
-  times-repeated zero at h = ap told (at_done [] s at)
-  times-repeated (suc n) at h = times-by n at (step at) h (one at h) (times-repeated n)
-
 -- one time is the part itself
 pub once-told : {A : Type 0} (r : Reader A) (s : List ℕ) (at : ℕ) → told (read_at (times 1 r) s at) ≡ told (read_at r s at)
 unfolding times told and_then
@@ -168,18 +145,3 @@ module _ (s : List ℕ) (at b : ℕ) (l : List ℕ) (k : ℕ) where
   pub matched-next : at < length s → get_or s at 0 ≡ b → matched s at (b ∷ l) k ≡ matched s (at + 1) l k
   unfolding matched
   matched-next h e = rw (lt-leb (length s) at h, eq-eqb (get_or s at 0) b e)
-
-pub literal-told : (k : ℕ) (l : List ℕ) (h : T (are_bytes l)) (s : List ℕ) (at : ℕ) → told (read_at (literal k l h) s at) ≡ matched s at l k
-unfolding literal matched told
-literal-told k [] h s at = ap told (at_done tt s at)
-literal-told k (b ∷ l) h s at =
-    by_cases
-    (dec_lt at (length s))
-    (λ q. by-test q (eqb (get_or s at 0) b) refl (λ g. literal-told k l g s (at + 1)))
-    (λ q. ap told (at-short _ _ s at (omega arith)) ∙ sym (matched-short s at b l k (omega arith)))
-  where
-    by-test : at < length s → (t : Bool) → eqb (get_or s at 0) b ≡ t → ((g : T (are_bytes l)) → told (read_at (literal k l g) s (at + 1)) ≡ matched s (at + 1) l k)
-        → told (read_at (literal k (b ∷ l) h) s at) ≡ matched s at (b ∷ l) k
-    by-test q true e rest =
-        ap told (at-pass _ _ s at q e) ∙ rest (and_r (ltb b 256) (are_bytes l) h) ∙ sym (matched-next s at b l k q (eqb-true (get_or s at 0) b e))
-    by-test q false e rest = ap told (at-fail _ _ s at q e) ∙ sym (matched-bad s at b l k q (eqb-false (get_or s at 0) b e))

@@ -4,7 +4,8 @@ use Rattle.std.proofs.Common.{sym, ◌∙◌}
 use Rattle.std.proofs.Math.Path.{ap}
 use Rattle.formats.specs.Reader.{read_at, bind, literal}
 use Rattle.formats.specs.Compose.{at-short}
-use Rattle.formats.specs.Told.{told, told-done, bind_done, bind-failed, matched, literal-told, done-within}
+use Rattle.formats.specs.Told.{told, told-done, bind_done, bind-failed, matched}
+use Rattle.formats.proofs.Ends.{literal-told, done-within}
 use Rattle.formats.specs.declared.Failure.{Failure}
 use Rattle.formats.specs.declared.Failure.TheVariants.{Short}
 use Rattle.formats.specs.declared.Outcome.TheVariants.{Done, Failed}

@@ -11,9 +11,9 @@ use Rattle.formats.specs.Number.{number}
 use Rattle.formats.specs.Compose.{at-start}
 use Rattle.formats.specs.Law.{Reads}
 use Rattle.formats.specs.Sight.{asked, seen}
-use Rattle.formats.specs.SightLaws.{seen-ok, seen-failed, seen-fixed, seen_most}
+use Rattle.formats.proofs.SightLaws.{seen-ok, seen-failed, seen-fixed, seen_most}
 use Rattle.formats.specs.Told.{at-bind-failed}
-use Rattle.formats.specs.Writes.{writes-literal, written_read}
+use Rattle.formats.proofs.WritesLaws.{writes-literal, written_read}
 use Rattle.formats.specs.declared.Failure.TheVariants.{Short, Bad}
 use Rattle.refusals.specs.declared.Refusal.TheVariants.{NoPoint}
 use Rattle.channels.specs.Channel.{signed_of}

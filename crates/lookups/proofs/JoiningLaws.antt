@@ -6,7 +6,8 @@ use Rattle.std.proofs.Math.Bool.{true, false}
 use Rattle.formats.specs.Fixed.{times-length}
 use Rattle.formats.specs.Bytes.{impossible}
 use Rattle.formats.specs.Reader.{Answer, ok, short, bad, run, read_at, times}
-use Rattle.formats.specs.Compose.{at-start, at-bind, at_done, at-within, then_ok}
+use Rattle.formats.specs.Compose.{at-start, at-bind, at_done, then_ok}
+use Rattle.formats.proofs.Ends.{at-within}
 use Rattle.formats.specs.Sight.{seen}
 use Rattle.points.specs.Points.{point}
 use Rattle.points.specs.Laws.{nth-point}

@@ -10,7 +10,7 @@ use borrow.Author.Tests.{le-ltb}
 use Rattle.formats.specs.Bytes.{Bytes}
 use Rattle.formats.specs.Reader.{Answer, ok, short, bad, read_at}
 use Rattle.formats.specs.Sight.{seen, failed_sight}
-use Rattle.formats.specs.SightLaws.{seen-within}
+use Rattle.formats.proofs.SightLaws.{seen-within}
 use Rattle.formats.specs.Told.{told}
 use Rattle.formats.specs.declared.Failure.{Failure}
 use Rattle.formats.specs.declared.Outcome.TheVariants.{Done, Failed}

@@ -4,7 +4,7 @@ use Rattle.std.proofs.Math.Path.{refl, ap}
 use Rattle.std.proofs.Common.{sym, ◌∙◌, arith, lt-ltb, le-ltb}
 use Rattle.formats.specs.Reader.{Reader, Answer, ok, read_at}
 use Rattle.formats.specs.Sight.{seen, failed_sight, FailedWithin}
-use Rattle.formats.specs.SightLaws.{seen-ok, seen-failed, seen-fixed}
+use Rattle.formats.proofs.SightLaws.{seen-ok, seen-failed, seen-fixed}
 use Rattle.formats.specs.Told.{told, failed, told-done, told-failed}
 use Rattle.formats.specs.declared.Failure.{Failure}
 use Rattle.formats.specs.declared.Failure.TheVariants.{Short, Bad}

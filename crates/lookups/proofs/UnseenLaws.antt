@@ -7,7 +7,7 @@ use mathlib.Core.List.{List}
 use Rattle.std.proofs.Math.ListN.{length}
 use Rattle.formats.specs.Reader.{Answer, ok, short, bad, read_at}
 use Rattle.formats.specs.Sight.{seen, Same}
-use Rattle.formats.specs.SightLaws.{same_read, same_seen}
+use Rattle.formats.proofs.SightLaws.{same_read, same_seen}
 use Rattle.refusals.specs.declared.Refusal.TheVariants.{NoPoint}
 use Rattle.point_places.specs.Places.{places_in}
 use Rattle.points.specs.Points.{point}

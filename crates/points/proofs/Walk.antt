@@ -12,7 +12,8 @@ use Rattle.formats.specs.Bytes.{impossible}
 use Rattle.formats.specs.Reader.{read_at, each, times}
 use Rattle.formats.specs.Number.{at-number}
 use Rattle.formats.specs.Jump.{ends, ends-sum}
-use Rattle.formats.specs.Told.{told, repeated, times-repeated, each-done, each-failed}
+use Rattle.formats.specs.Told.{told, repeated, each-done, each-failed}
+use Rattle.formats.proofs.Ends.{times-repeated}
 use Rattle.formats.specs.Writes.{All}
 use Rattle.formats.specs.declared.Failure.TheVariants.{Short, Bad}
 use Rattle.formats.specs.declared.Outcome.TheVariants.{Done, Failed}

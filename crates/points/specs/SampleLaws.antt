@@ -5,7 +5,8 @@ use Rattle.std.proofs.Common.{◌∙◌, arith, eq-eqb, ne_eqb, eqb-true}
 use Rattle.std.proofs.lemmas.Bool.{eqb-false}
 use Rattle.formats.specs.Reader.{ok, short, bad, mapped, done, read_at, one}
 use Rattle.formats.specs.Compose.{at_done, at_map, at-short, at-pass, at-fail}
-use Rattle.formats.specs.Number.{number, at-number-short}
+use Rattle.formats.specs.Number.{number}
+use Rattle.formats.proofs.NumberLaws.{at-number-short}
 use Rattle.channels.specs.Channel.{S, signed_of, width_of}
 use Rattle.channels.specs.Stored.{value_of}
 use Rattle.tip_switch.specs.Switch.{admitted, state_of}

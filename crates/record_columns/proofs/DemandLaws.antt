@@ -3,7 +3,7 @@ use Rattle.std.specs.Prelude.{◌≡◌, refl, Bool, true, false, cond, List, �
 use Rattle.std.proofs.Common.{sym, ap, subst, ◌∙◌, arith, take_all}
 use borrow.Author.Tests.{le-ltb, eq-eqb, ne_eqb}
 use Rattle.formats.specs.Bytes.{impossible}
-use Rattle.formats.specs.Law.{reads-take}
+use Rattle.formats.proofs.Lawful.{reads-take}
 use Rattle.formats.specs.Reader.{Answer, ok, short, bad, run}
 use Rattle.formats.specs.declared.Failure.TheVariants.{Short, Bad}
 use Rattle.refusals.specs.Table.{refusal_of}

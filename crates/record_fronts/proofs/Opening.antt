@@ -12,7 +12,8 @@ use Rattle.formats.specs.Reader.{done, ok, short, bad, read_at, bind, one, liter
 use Rattle.formats.specs.Compose.{at_done, at-short, at-pass, at-fail, at-bind-ok}
 use Rattle.formats.specs.Told.{at-bind-failed}
 use Rattle.formats.specs.declared.Failure.TheVariants.{Short}
-use Rattle.formats.specs.Number.{number, at-number, at-number-short, value-three}
+use Rattle.formats.specs.Number.{number, at-number, value-three}
+use Rattle.formats.proofs.NumberLaws.{at-number-short}
 use Rattle.records.specs.Record.{opening}
 use Rattle.record_fronts.specs.Front.{Opening, opened}
 

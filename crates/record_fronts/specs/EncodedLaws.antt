@@ -5,9 +5,12 @@ use Rattle.std.proofs.Math.Option.{Option, none, some}
 use Rattle.formats.specs.Bytes.{Bytes}
 use Rattle.formats.specs.Reader.{ok, read_at, map}
 use Rattle.formats.specs.Compose.{at-start}
-use Rattle.formats.specs.Law.{Reads, whole}
-use Rattle.formats.specs.Number.{digits, length_digits, writes-number}
-use Rattle.formats.specs.Writes.{Writes, writes_as, writes-map, writes-done, writes_one, writes-literal, writes_line, written_read}
+use Rattle.formats.specs.Law.{Reads}
+use Rattle.formats.proofs.Lawful.{whole}
+use Rattle.formats.specs.Number.{digits, length_digits}
+use Rattle.formats.proofs.NumberLaws.{writes-number}
+use Rattle.formats.specs.Writes.{Writes, writes_as, writes-done, writes_one}
+use Rattle.formats.proofs.WritesLaws.{writes-map, writes-literal, writes_line, written_read}
 use Rattle.formats.specs.Binary.{bit}
 use Rattle.descriptions.specs.Description as described
 use Rattle.descriptions.specs.Description.{encode_description}

@@ -9,8 +9,10 @@ use native.Mathlib.Decide.{dec_lt}
 use native.Mathlib.Omega.{arith}
 use lib.ListN.{length, get_or}
 use Rattle.formats.specs.Reader.{ok, free, map, read_at}
-use Rattle.formats.specs.Compose.{at_done, at-free, at-free-short}
-use Rattle.formats.specs.Number.{number, at-number, at-number-short, value-two}
+use Rattle.formats.specs.Compose.{at_done, at-free}
+use Rattle.formats.proofs.Ends.{at-free-short}
+use Rattle.formats.specs.Number.{number, at-number, value-two}
+use Rattle.formats.proofs.NumberLaws.{at-number-short}
 use Rattle.formats.specs.Jump.{Jumps, ends, ends_there, ends-short}
 use Rattle.formats.specs.Told.{told, bind_done, map-told, at-bind-failed}
 use Rattle.formats.specs.declared.Failure.TheVariants.{Short}

@@ -7,9 +7,11 @@ use Rattle.std.proofs.Math.Option.{Option, none, some}
 use Rattle.std.proofs.Math.Decide.{dec_lt}
 use Rattle.formats.specs.Bytes.{impossible}
 use Rattle.formats.specs.Reader.{Answer, ok, short, bad, done, and_then, read_at, run, bind, times, free}
-use Rattle.formats.specs.Compose.{at-start, at-bind, at_done, at-within, at-bind-ok, at-free, at-free-short}
+use Rattle.formats.specs.Compose.{at-start, at-bind, at_done, at-bind-ok, at-free}
+use Rattle.formats.proofs.Ends.{at-within, at-free-short}
 use Rattle.formats.specs.declared.Failure.TheVariants.{Short}
-use Rattle.formats.specs.Number.{number, value, at-number, at-number-short}
+use Rattle.formats.specs.Number.{number, value, at-number}
+use Rattle.formats.proofs.NumberLaws.{at-number-short}
 use Rattle.formats.specs.Fixed.{times-length}
 use Rattle.formats.specs.Told.{told, failed, told-failed, at-bind-failed}
 use Rattle.formats.specs.declared.Failure.{Failure}

@@ -8,7 +8,7 @@ use native.Mathlib.Omega.{arith}
 use lib.ListN.{length, replicate}
 use borrow.Author.Tests.{lt-ltb, le-ltb}
 use Rattle.formats.specs.Reader.{ok, run, read_at}
-use Rattle.formats.specs.Fixed.{fixed-times}
+use Rattle.formats.proofs.FixedLaws.{fixed-times}
 use Rattle.formats.specs.Told.{failed}
 use Rattle.formats.specs.declared.Failure.{Failure}
 use Rattle.formats.specs.declared.Failure.TheVariants.{Short, Bad}

@@ -6,7 +6,8 @@ use Prim.Native.Nat.{ℕ, ◌-◌, ◌≤◌}
 use lib.ListN.{length}
 use Rattle.formats.specs.Bytes.{impossible}
 use Rattle.formats.specs.Reader.{Answer, ok, short, bad, run, read_at, bind, literal}
-use Rattle.formats.specs.Compose.{at-start, at-within, at-short}
+use Rattle.formats.specs.Compose.{at-start, at-short}
+use Rattle.formats.proofs.Ends.{at-within}
 use Rattle.formats.specs.Told.{told, failed, at-bind-failed}
 use Rattle.formats.specs.declared.Failure.{Failure}
 use Rattle.formats.specs.declared.Failure.TheVariants.{Short, Bad}

@@ -11,7 +11,7 @@ use Rattle.std.proofs.Math.Seq.{length-take-le}
 use Rattle.formats.specs.Bytes.{Bytes, impossible}
 use Rattle.formats.specs.Put.{puts, puts-is}
 use Rattle.formats.specs.Reader.{ok, run}
-use Rattle.formats.specs.Law.{whole}
+use Rattle.formats.proofs.Lawful.{whole}
 use Rattle.formats.specs.Lent.{writing}
 use Rattle.refusals.specs.declared.Refusal.TheVariants.{Room}
 use Rattle.refusals.specs.declared.Judgement.{Judgement}

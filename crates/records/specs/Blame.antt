@@ -6,9 +6,12 @@ use Rattle.std.proofs.Math.Seq.{take-append_seam, get_or-append_seam}
 use Rattle.std.proofs.lemmas.Bool.{eqb-false}
 use Rattle.formats.specs.Bytes.{Bytes, impossible}
 use Rattle.formats.specs.Reader.{bad, run}
-use Rattle.formats.specs.Number.{digits, writes-number}
-use Rattle.formats.specs.Writes.{encode_each, writes_one, writes-literal}
-use Rattle.formats.specs.Faults.{Faults, Never, Then, here, later, Strays, InNext, faults-as, faults-never, faults-last, faults-bind, faults-one, faults-literal, faults-times, faults-exactly, one-fault, never_done, never-bind, never-number, never-free}
+use Rattle.formats.specs.Number.{digits}
+use Rattle.formats.proofs.NumberLaws.{writes-number}
+use Rattle.formats.specs.Writes.{encode_each, writes_one}
+use Rattle.formats.proofs.WritesLaws.{writes-literal}
+use Rattle.formats.specs.Faults.{Faults, Never, Then, here, later, Strays, InNext, faults-as, faults-never, faults-last, one-fault, never_done, never-bind}
+use Rattle.formats.proofs.FaultsLaws.{faults-bind, faults-one, faults-literal, faults-times, faults-exactly, never-number, never-free}
 use Rattle.channels.specs.Channel.{S}
 use Rattle.channels.specs.declared.Description.{Description}
 use Rattle.formats.specs.Binary.{bit}

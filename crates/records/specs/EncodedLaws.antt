@@ -4,8 +4,10 @@ use Rattle.std.proofs.Common.{sym, ap, append-nil, append_assoc, arith, eqb-true
 use Rattle.std.proofs.Math.Option.{Option, none, some}
 use Rattle.formats.specs.Bytes.{Bytes, impossible}
 use Rattle.formats.specs.Reader.{map}
-use Rattle.formats.specs.Number.{digits, writes-number}
-use Rattle.formats.specs.Writes.{Writes, writes_as, writes-map, writes-done, writes_one, writes-times, writes-free, writes-literal, writes_line}
+use Rattle.formats.specs.Number.{digits}
+use Rattle.formats.proofs.NumberLaws.{writes-number}
+use Rattle.formats.specs.Writes.{Writes, writes_as, writes-done, writes_one}
+use Rattle.formats.proofs.WritesLaws.{writes-map, writes-times, writes-free, writes-literal, writes_line}
 use Rattle.formats.specs.Binary.{bit}
 use Rattle.descriptions.proofs.EncodedLaws.{writes-description}
 use Rattle.points.specs.Laws.{writes-point}

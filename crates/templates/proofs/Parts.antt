@@ -11,7 +11,7 @@ use lib.Seq.{drop-cons, drop-drop, length-take-le}
 use borrow.Author.Tests.{leb-true, leb-false, ltb-true, ltb-false, le-leb, lt-leb, eq-eqb, ne_eqb}
 use Rattle.formats.specs.Bytes.{Bytes, impossible}
 use Rattle.formats.specs.Reader.{ok, short, bad, run, read_at}
-use Rattle.formats.specs.Law.{refused as refused-byte}
+use Rattle.formats.proofs.Lawful.{refused as refused-byte}
 use Rattle.formats.specs.Compose.{at-start}
 use Rattle.formats.specs.Number.{value}
 use Rattle.formats.specs.Told.{failed}

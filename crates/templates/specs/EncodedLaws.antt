@@ -10,7 +10,8 @@ use Rattle.std.proofs.Math.ListN.{length}
 use Rattle.std.proofs.Math.Seq.{take-append_seam, drop-append_seam}
 use Rattle.formats.specs.Bytes.{Bytes, bytes_take, bytes_drop, impossible}
 use Rattle.formats.specs.Reader.{Answer, ok, short, bad, run}
-use Rattle.formats.specs.Number.{number, digits, value, length_digits, number_ok, writes-number}
+use Rattle.formats.specs.Number.{number, digits, value, length_digits, number_ok}
+use Rattle.formats.proofs.NumberLaws.{writes-number}
 use Rattle.channels.specs.declared.Description.{Description}
 use Rattle.channels.specs.declared.Format.TheVariants.{Compact}
 use Rattle.descriptions.specs.Description.{description, encode_description}

@@ -8,8 +8,9 @@ use native.Mathlib.Omega.{arith}
 use lib.IntN.{ℤ}
 use lib.ListN.{length, get_or}
 use Rattle.formats.specs.Reader.{ok, read_at, times}
-use Rattle.formats.specs.Compose.{at-within}
-use Rattle.formats.specs.Fixed.{times-length, fixed-times}
+use Rattle.formats.proofs.Ends.{at-within}
+use Rattle.formats.specs.Fixed.{times-length}
+use Rattle.formats.proofs.FixedLaws.{fixed-times}
 use Rattle.channels.specs.declared.Place.{Place}
 use Rattle.channels.specs.declared.Place.TheVariants.{Absent, Constant, Number}
 use Rattle.points.specs.Points.{channels, point, width}

@@ -10,7 +10,7 @@ use lib.ListN.{length}
 use Rattle.formats.specs.Bytes.{impossible}
 use Rattle.formats.specs.Put.{puts}
 use Rattle.formats.specs.Reader.{Answer, ok, short, bad, run, read_at, times}
-use Rattle.formats.specs.Law.{whole}
+use Rattle.formats.proofs.Lawful.{whole}
 use Rattle.formats.specs.declared.Failure.TheVariants.{Short, Bad}
 use Rattle.formats.specs.Writes.{All}
 use Rattle.refusals.specs.declared.Refusal.{Refusal}

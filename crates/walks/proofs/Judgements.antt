@@ -8,7 +8,7 @@ use lib.ListN.{length}
 use borrow.Author.Tests.{lt-ltb, le-ltb}
 use Rattle.formats.specs.Bytes.{impossible}
 use Rattle.formats.specs.Reader.{Answer, ok, short, bad, read_at}
-use Rattle.formats.specs.Compose.{at-within}
+use Rattle.formats.proofs.Ends.{at-within}
 use Rattle.records.specs.Record.{Record, full_record}
 use Rattle.record_reading.specs.Verdict.{verdict_from}
 use Rattle.record_reading.specs.declared.Verdict.{Verdict}

@@ -8,7 +8,7 @@ use Rattle.std.proofs.Math.ListN.{length, take, length-append, length-drop}
 use Rattle.std.proofs.Math.Seq.{drop-append_seam}
 use Rattle.formats.specs.Bytes.{Bytes, bytes_drop, impossible}
 use Rattle.formats.specs.Reader.{Answer, ok, short, bad, after, run, read_at}
-use Rattle.formats.specs.Law.{whole}
+use Rattle.formats.proofs.Lawful.{whole}
 use Rattle.formats.specs.Writes.{All, all_append}
 use Rattle.formats.specs.declared.Failure.TheVariants.{Short, Bad}
 use Rattle.refusals.specs.Table.{refusal_of}

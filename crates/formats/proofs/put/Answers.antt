@@ -16,8 +16,8 @@ fewer j =
     let a = j.args in
     let room = length a.out.now - a.start in
     elim j.if-room-bytes.branch [
-      then-room-bytes w ↦ rw w.count-is (omega arith, omega arith, length-take-le room a.bytes.now (omega arith))
-    | else-room-bytes w ↦ rw w.count-is (omega arith, omega arith, ap length (take_all room a.bytes.now (omega arith)))
+      | then-room-bytes w ↦ rw w.count-is (omega arith, omega arith, length-take-le room a.bytes.now (omega arith))
+      | else-room-bytes w ↦ rw w.count-is (omega arith, omega arith, ap length (take_all room a.bytes.now (omega arith)))
     ]
 
 pub returns-then-out-start : goal.returns-then-out-start

@@ -5,7 +5,7 @@ use native.Mathlib.Omega.{arith}
 use lib.ListN.{length}
 use Rattle.formats.specs.Reader.{read_at}
 use Rattle.formats.specs.Sight.{seen}
-use Rattle.formats.specs.SightLaws.{seen-within}
+use Rattle.formats.proofs.SightLaws.{seen-within}
 use Rattle.formats.specs.Told.{told, once-told}
 use Rattle.formats.specs.declared.Outcome.TheVariants.{Failed}
 use Rattle.points.specs.Points.{point}

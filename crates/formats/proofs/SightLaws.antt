@@ -10,7 +10,8 @@ use Rattle.std.proofs.Math.ListN.{length, take, length-drop}
 use Rattle.std.proofs.Math.Seq.{length-take-le}
 use Rattle.formats.specs.Bytes.{Bytes, bytes-append, bytes_take, bytes_drop, impossible}
 use Rattle.formats.specs.Reader.{Reader, done, byte, Answer, ok, short, bad, next, after, run, read_at}
-use Rattle.formats.specs.Law.{Reads, Begun, whole, refused, reads-take, short-iff}
+use Rattle.formats.specs.Law.{Reads, Begun}
+use Rattle.formats.proofs.Lawful.{whole, refused, reads-take, short-iff}
 use Rattle.formats.specs.Compose.{at-start}
 use Rattle.formats.specs.Told.{failed}
 use Rattle.formats.specs.Fixed.{Fixed}

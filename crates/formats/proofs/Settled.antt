@@ -1,11 +1,12 @@
 -- A reader's refusal, found from what the reader says of the beginnings: what follows of `Law`.
-use Rattle.std.specs.Prelude.{◌≡◌, refl, List, [], ◌++◌, ℕ, suc, ◌+◌, ◌-◌, ◌<◌, length, take, drop}
+use Rattle.std.specs.Prelude.{◌≡◌, refl, List, [], ◌++◌, ℕ, suc, ◌<◌, length, take, drop}
 use Rattle.std.proofs.Common.{sym, ap, ◌∙◌, append-nil, arith, take-append-drop, take-take, length-take-le}
 use Rattle.std.proofs.Math.Logic.{by_cases}
 use Rattle.std.proofs.Math.Decide.{dec_lt}
 use Rattle.formats.specs.Bytes.{bytes-nil, impossible}
 use Rattle.formats.specs.Reader.{Reader, Answer, ok, short, bad, run}
-use Rattle.formats.specs.Law.{Begun, begins, whole, refused}
+use Rattle.formats.specs.Law.{Begun}
+use Rattle.formats.proofs.Lawful.{begins, whole, refused}
 
 module _ {A : Type 0} (r : Reader A) (s : List ℕ) where
   -- the first byte after which nothing that r takes can begin, where what stands before it is a proper beginning, is refused
