@@ -3,7 +3,7 @@ use mathlib.Core.Path.{◌≡◌, sym, ◌∙◌}
 use Prim.Native.Nat.{◌<◌}
 use native.Mathlib.Omega.{arith}
 use Rattle.values.specs.Values.{judgement_of}
-use Rattle.record_writing.specs.WriteLaws.{at_count, at-values, at-extended, at_last}
+use Rattle.record_writing.proofs.WriteLaws.{at_count, at-values, at-extended, at_last}
 use Rattle.record_writing.proofs.judge_values.Goals as goal
 use Rattle.record_writing.proofs.judge_values.Goals.{After-judge-judged, In_default, Start}
 
