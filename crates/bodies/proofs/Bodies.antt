@@ -1,7 +1,7 @@
 -- What code is told of a body, taken back to its definitions: how many points its bytes begin, and the verdict, by how reading them ended and by its template's rule.
 use mathlib.Core.Path.{◌≡◌, refl, sym, ap, ◌∙◌}
 use mathlib.Core.Bool.{Bool, true, false, cond}
-use mathlib.Core.List.{List, [], ◌∷◌}
+use mathlib.Core.List.{List}
 use Prim.Native.Nat.{ℕ, zero, suc, ◌+◌, ◌/◌, ◌%◌, ◌≤◌, ◌<◌}
 use native.Mathlib.Nat.{div-add-mod'}
 use native.Mathlib.Omega.{arith}
@@ -27,7 +27,7 @@ use Rattle.points.specs.Points.{point, width}
 use Rattle.templates.specs.declared.Judged as templates
 use Rattle.bodies.specs.Body.{begun, points_in}
 use Rattle.bodies.specs.Reading.{ruled, rule_of, exceeds, verdict_by, verdict_of, unjudged, described, judged_by, pointed_at, pointed_by}
-use Rattle.bodies.specs.DemandLaws.{said_of}
+use Rattle.bodies.proofs.DemandLaws.{said_of}
 use Rattle.bodies.specs.declared.Rule.{Rule}
 use Rattle.bodies.specs.declared.Verdict.{Verdict}
 use Rattle.bodies.specs.declared.Verdict.TheVariants as verdict

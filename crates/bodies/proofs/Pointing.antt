@@ -1,7 +1,7 @@
 -- What is said of a point of a body: where there is one its bytes stand at an even distance from the start, and where there is none it is read as one of no channel.
 use mathlib.Core.Path.{◌≡◌, refl, sym, ap, ◌∙◌}
 use mathlib.Core.Bool.{Bool, true, false, cond}
-use mathlib.Core.List.{List, [], ◌∷◌}
+use mathlib.Core.List.{List}
 use Prim.Native.Nat.{ℕ, ◌+◌, ◌*◌, ◌≤◌, ◌<◌}
 use native.Mathlib.Nat.{mul-le-mul_right}
 use native.Mathlib.Omega.{arith}
@@ -31,7 +31,7 @@ use Rattle.bodies.specs.declared.Verdict.{Verdict}
 use Rattle.bodies.specs.declared.Verdict.TheVariants as verdict
 use Rattle.bodies.specs.declared.Pointed.{Pointed}
 use Rattle.bodies.specs.declared.Pointed.TheVariants as pointed
-use Rattle.bodies.specs.DemandLaws.{said_of}
+use Rattle.bodies.proofs.DemandLaws.{said_of}
 
 -- a verdict that is a body tells what was read
 record Read (x : Answer (List (List ℤ))) (count : ℕ) : Type 0 where

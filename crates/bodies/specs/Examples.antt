@@ -1,35 +1,17 @@
 -- The examples of request L4's specification that read and write bodies: one table of questions and answers, and one claim.
-use Rattle.std.specs.Prelude.{◌≡◌, refl, Bool, true, false, ℕ, ℤ, pos, negsuc, replicate}
-use mathlib.Core.List.{List, [], ◌∷◌, ◌++◌, map, flat_map}
-use Rattle.formats.specs.Reader as reader
-use Rattle.formats.specs.Reader.{next, run, bind, each, times, one}
-use Rattle.formats.specs.Number as numbers
-use Rattle.formats.specs.Number.{number, digits}
-use Rattle.formats.specs.Put.{puts}
-use Rattle.formats.specs.Writes.{encode_each}
+use Rattle.std.specs.Prelude.{Bool, true, false, ℕ, ℤ, pos, negsuc, replicate}
+use mathlib.Core.List.{List, [], ◌∷◌, ◌++◌}
 use Rattle.formats.specs.Lent.{Writing}
-use Rattle.refusals.specs.Table.{number_of, in_compact, named, refusal_of}
-use Rattle.refusals.specs.Stages.{require, or_else, stages, compactly}
-use Rattle.refusals.specs.Ranges.{first_misfit}
+use Rattle.refusals.specs.Table.{number_of}
 use Rattle.refusals.specs.declared.Where.TheVariants.{At}
 use Rattle.refusals.specs.declared.Quantity.TheVariants as quantity
 use Rattle.refusals.specs.declared.Refusal.TheVariants.{Short, XOrY, Switch, LeftOver, Amount, Room, Tag, Maximum, NotCompact}
-use Rattle.channels.specs.Channel.{signed_of}
-use Rattle.channels.specs.Stored.{offset, value_of, stored_of, fits}
 use Rattle.channels.specs.declared.Place.{Place}
 use Rattle.channels.specs.declared.Place.TheVariants.{Absent, Constant, Number}
-use Rattle.descriptions.specs.Description.{attribute, descriptor, includes, channel_of, description}
-use Rattle.descriptions.specs.Read.{nothing}
-use Rattle.tip_switch.specs.Switch.{state_of, is_state, byte_of}
-use Rattle.points.specs.Points as points
-use Rattle.points.specs.Points.{stored_from, channels, widths, width, encode_sample, encode_point, fits_sample}
-use Rattle.point_places.specs.Places.{places_of, nowhere}
-use Rattle.orders.specs.Orders.{step, stride, numbers_from, points_from, points_of}
-use Rattle.values.specs.Values.{samples_in, samples_from, samples, judgement_of}
-use Rattle.templates.specs.Reading.{with_content, is_shortest, at_end, limited_by, limited_from, filling, described_by, content_of, length_and_content, template_of}
-use Rattle.bodies.specs.Body.{begun, points_in}
-use Rattle.bodies.specs.Reading.{ruling, exceeds, verdict_by, judged_by, pointed_by, places_by}
-use Rattle.bodies.specs.Writing.{count_fits, judgement_by, put_where, write_ruled, write_by}
+use Rattle.point_places.specs.Places.{nowhere}
+use Rattle.templates.specs.Reading.{template_of}
+use Rattle.bodies.specs.Reading.{judged_by, places_by}
+use Rattle.bodies.specs.Writing.{write_by}
 use Rattle.bodies.specs.declared.Verdict.{Verdict}
 use Rattle.bodies.specs.declared.Verdict.TheVariants as verdict
 use Rattle.bodies.specs.declared.Written.{Written}
@@ -49,9 +31,9 @@ pub data Answer : Type 0 where
   places : List Place → Answer
   put : (number : ℕ) → Written → (bytes : List ℕ) → Answer
 
-record Example : Type 0 where
-  question : Question
-  answer : Answer
+pub record Example : Type 0 where
+  pub question : Question
+  pub answer : Answer
 
 infix 20 ◌is◌
 abbrev ◌is◌ : Question → Answer → Example
@@ -109,7 +91,7 @@ printed = 0xAC ∷ 0xF2 ∷ 0xA9 ∷ 0xF2 ∷ []
 abbrev sample : (x : ℤ) → List Place
 sample x = Number x ∷ Number (pos 114) ∷ replicate 6 Absent ++ Constant ∷ replicate 7 Absent
 
-abbrev table : List Example
+abbrev pub table : List Example
 table =
     (body xy [] is judged 0 (verdict.Body 0))
     ∷ (body xy (0x7F ∷ 0x80 ∷ []) is judged 0 (verdict.Body 1))
@@ -165,13 +147,5 @@ table =
     ∷ []
 
 -- an example as the functions answer it
-abbrev found : Example → Example
+abbrev pub found : Example → Example
 found e = e.question is answered e.question
-
-pub examples : map found table ≡ table
-unfolding answered run next bind reader.map each times one number value_of offset signed_of attribute descriptor includes channel_of description nothing
-    with_content is_shortest at_end limited_by limited_from filling described_by content_of length_and_content template_of numbers.value
-    stored_from channels widths width points.sample points.point places_of named refusal_of begun points_in ruling exceeds verdict_by judged_by pointed_by places_by
-    require or_else stages compactly in_compact first_misfit samples_in samples_from samples judgement_of fits_sample fits step stride numbers_from points_from points_of
-    digits stored_of state_of is_state byte_of encode_each encode_sample encode_point flat_map puts count_fits judgement_by put_where write_ruled write_by
-examples = refl

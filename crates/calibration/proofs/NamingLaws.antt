@@ -5,7 +5,7 @@ use Rattle.std.proofs.Common.{ap}
 use Rattle.std.proofs.Math.Bool.{true, false, cond}
 use Rattle.formats.specs.Bytes.{impossible}
 use Rattle.refusals.specs.Ranges.{Ranged, first_misfit, FirstOutside}
-use Rattle.refusals.specs.RangeLaws.{named-first, first-named}
+use Rattle.refusals.proofs.RangeLaws.{named-first, first-named}
 use Rattle.refusals.specs.declared.Quantity.{Quantity}
 use Rattle.refusals.specs.declared.Refusal.{Refusal}
 use Rattle.refusals.specs.declared.Refusal.TheVariants.{OutOfRange}

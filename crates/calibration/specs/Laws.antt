@@ -10,7 +10,7 @@ use borrow.Author.Tests.{lt-leb, le-leb, leb-true}
 use Rattle.formats.specs.Bytes.{impossible}
 use Rattle.refusals.specs.Stages.{require, or_else}
 use Rattle.refusals.specs.Ranges.{first_misfit}
-use Rattle.refusals.specs.RangeLaws.{passed-fit}
+use Rattle.refusals.proofs.RangeLaws.{passed-fit}
 use Rattle.refusals.specs.declared.Quantity.TheVariants.{Raw, Exponent}
 use Rattle.refusals.specs.declared.Refusal.TheVariants.{OutOfRange}
 use Rattle.refusals.specs.declared.Judgement.{Judgement}

@@ -8,14 +8,14 @@ use Rattle.std.specs.Float.Ieee.Bits.{is_true}
 use Rattle.formats.specs.Bytes.{impossible}
 use Rattle.refusals.specs.Stages.{require, or_else, stages, require-passed, or-else-passed, stages-passed}
 use Rattle.refusals.specs.Ranges.{first_misfit}
-use Rattle.refusals.specs.RangeLaws.{passed-fit, fit_passed, joined}
+use Rattle.refusals.proofs.RangeLaws.{passed-fit, fit_passed, joined}
 use Rattle.refusals.specs.declared.Judgement.TheVariants as judgement
 use Rattle.channels.specs.Channel.{is_same, signed_of, width_of, same-is, is_same_lem}
 use Rattle.channels.specs.declared.Descriptor.{Descriptor}
 use Rattle.channels.specs.declared.Description.{Description}
 use Rattle.channels.specs.declared.Format.{Format}
 use Rattle.descriptions.specs.Description.{includes_xy, fits_attribute, fits_descriptor, every, neat, all_fit, tidy, Valid}
-use Rattle.descriptions.specs.EncodedLaws.{tidy-neat, tidy-marked, tidy-fits}
+use Rattle.descriptions.proofs.EncodedLaws.{tidy-neat, tidy-marked, tidy-fits}
 use Rattle.description_judging.specs.Judging.{numbers_of, numbers_from, numbers, neat_in, judgement_of}
 use Rattle.description_judging.specs.Marks.{PassesTidy}
 

@@ -11,7 +11,7 @@ use Rattle.formats.specs.Bytes.{impossible}
 use Rattle.formats.specs.Writes.{All, all_append}
 use Rattle.refusals.specs.Stages.{require, or_else, stages, or-else-last}
 use Rattle.refusals.specs.Ranges.{Ranged, first_misfit}
-use Rattle.refusals.specs.RangeLaws.{named-first, first-named, of-first}
+use Rattle.refusals.proofs.RangeLaws.{named-first, first-named, of-first}
 use Rattle.refusals.specs.declared.AttributeName.{AttributeName}
 use Rattle.refusals.specs.declared.AttributeName.TheVariants.{Scaling, Minimum, Maximum, Mean, Deviation}
 use Rattle.refusals.specs.declared.Where.TheVariants.{Nowhere}

@@ -15,7 +15,7 @@ use Rattle.channels.specs.Channel.{width_of}
 use Rattle.channels.specs.declared.Description.{Description}
 use Rattle.channels.specs.declared.Format.{Format}
 use Rattle.descriptions.specs.Description.{description, encode_description, Valid}
-use Rattle.descriptions.specs.EncodedLaws.{writes-description}
+use Rattle.descriptions.proofs.EncodedLaws.{writes-description}
 use Rattle.description_judging.specs.Judging.{judgement_of}
 use Rattle.description_writing.specs.Write.{put_room, put_judged, put_if}
 use Rattle.description_writing.specs.declared.Written.TheVariants.{Done, Refused}

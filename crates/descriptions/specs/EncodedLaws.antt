@@ -249,11 +249,11 @@ absent-fits : (w i : ℕ) → T (fits_descriptor w i absent)
 unfolding fits_descriptor fits_attribute
 absent-fits w i = tt
 
-abbrev inclusions : List Descriptor → List Bool
+abbrev pub inclusions : List Descriptor → List Bool
 inclusions ds = map (λ d. d.included) ds
 
 module _ (w m : ℕ) where
-  abbrev GoodChannel : ℕ → Descriptor → Type 0
+  abbrev pub GoodChannel : ℕ → Descriptor → Type 0
   GoodChannel i d = (d.included ≡ includes m i) × T (tidy_descriptor d) × T (fits_descriptor w i d)
 
   writes-included : (i : ℕ) (t : Bool)
@@ -269,17 +269,17 @@ module _ (w m : ℕ) where
 
   -- ---- The channels
 
-  record Channels (n i : ℕ) (ds : List Descriptor) : Type 0 where
-    flags : inclusions ds ≡ bits n m
-    many : length ds ≡ n
-    neat : T (every (λ j. tidy_descriptor) i ds)
-    ranges : T (every (fits_descriptor w) i ds)
+  pub record Channels (n i : ℕ) (ds : List Descriptor) : Type 0 where
+    pub flags : inclusions ds ≡ bits n m
+    pub many : length ds ≡ n
+    pub neat : T (every (λ j. tidy_descriptor) i ds)
+    pub ranges : T (every (fits_descriptor w) i ds)
 
   this : (n i : ℕ) → i + suc n ≡ 16 → includes m i ≡ bit (suc n) m
   unfolding includes
   this n i h = let e : 16 - i ≡ suc n = omega arith in rw e
 
-  all_of : (n i : ℕ) (ds : List Descriptor) → i + n ≡ 16 → Each GoodChannel (from i n) ds → Channels n i ds
+  pub all_of : (n i : ℕ) (ds : List Descriptor) → i + n ≡ 16 → Each GoodChannel (from i n) ds → Channels n i ds
   unfolding from bits every
   all_of zero i [] e h = record { flags = refl; many = refl; neat = tt; ranges = tt }
   all_of zero i (d ∷ ds) e h = absurd h
@@ -292,7 +292,7 @@ module _ (w m : ℕ) where
         ranges = and_i (fits_descriptor w i d) (every (fits_descriptor w) (suc i) ds) h.0.2 r.ranges;
       }
 
-  of-all : (n i : ℕ) (ds : List Descriptor) → i + n ≡ 16 → Channels n i ds → Each GoodChannel (from i n) ds
+  pub of-all : (n i : ℕ) (ds : List Descriptor) → i + n ≡ 16 → Channels n i ds → Each GoodChannel (from i n) ds
   unfolding from bits every
   of-all zero i [] e h = tt
   of-all zero i (d ∷ ds) e h = absurd (omega (arith, h.many))
@@ -309,85 +309,3 @@ module _ (w m : ℕ) where
           ranges = and_r (fits_descriptor w i d) (every (fits_descriptor w) (suc i) ds) h.ranges;
         }),
       )
-
--- ---- The description
-
--- the inclusion bytes, from the flags
-abbrev mask : Description → ℕ
-mask d = binary (inclusions d.channels)
-
-mask-bits : (w m : ℕ) (d : Description) → m < 65536 → Channels w m 16 0 d.channels → mask d ≡ m
-mask-bits w m d h c = ap binary c.flags ∙ binary-bits 16 m h
-
-bits-mask : (d : Description) → length d.channels ≡ 16 → (mask d < 65536) × (inclusions d.channels ≡ bits 16 (mask d))
-bits-mask d h =
-    let n : length (inclusions d.channels) ≡ 16 = length-map d.channels (λ c. c.included) ∙ h in
-    (rw n at (binary-below (inclusions d.channels)), sym (rw n at (bits-binary (inclusions d.channels))))
-
--- X and Y have the first bits of the first byte
-first-bits : (m : ℕ) → (bit 16 m ≡ bit 8 (m / 256)) × (bit 15 m ≡ bit 7 (m / 256))
-first-bits m =
-    let x : m / 32768 ≡ m / 256 / 128 = omega arith in
-    let y : m / 16384 ≡ m / 256 / 64 = omega arith in
-    (rw x, rw y)
-
-flag_at : (ds : List Descriptor) (i : ℕ) → get_or (inclusions ds) i false ≡ (get_or ds i absent).included
-flag_at ds i = get_or-map (λ c. c.included) ds i absent
-
-xy-first : (d : Description) (m : ℕ) → inclusions d.channels ≡ bits 16 m → includes_xy d ≡ has_xy.holds (m / 256)
-unfolding includes_xy bits
-xy-first d m e = rw (← flag_at d.channels 0, ← flag_at d.channels 1, e, (first-bits m).0, (first-bits m).1)
-
-true-is : (t : Bool) → T t → t ≡ true
-true-is true h = refl
-true-is false h = absurd h
-
-pub tidy-neat : (d : Description) → T (tidy d) → T (neat d)
-unfolding tidy
-tidy-neat d h = and_l (neat d) (all_fit (width_of d.mark) d) h
-
-module _ (format : Format) (d : Description) where
-  -- what has the mark of a format is tidy where it is neat and its numbers fit that format
-  pub tidy-marked : d.mark ≡ format → T (neat d) → T (all_fit (width_of format) d) → T (tidy d)
-  unfolding tidy neat all_fit
-  tidy-marked e h q = rw e (and_i (neat d) (all_fit (width_of format) d) h q)
-
-  pub tidy-fits : d.mark ≡ format → T (tidy d) → T (all_fit (width_of format) d)
-  unfolding tidy all_fit
-  tidy-fits e h = rw e at (and_r (neat d) (all_fit (width_of d.mark) d) h)
-
-  valid : d.mark ≡ format → Channels (width_of format) (mask d) 16 0 d.channels → has_xy.holds (mask d / 256) ≡ true → Valid format d
-  unfolding neat all_fit
-  valid e c h = record { sixteen = c.many; xy = rw (xy-first d (mask d) c.flags, h) tt; marked = e; tidy = tidy-marked e c.neat c.ranges }
-
-  as-channels : Valid format d → Channels (width_of format) (mask d) 16 0 d.channels
-  unfolding neat all_fit
-  as-channels v = record { flags = (bits-mask d v.sixteen).1; many = v.sixteen; neat = tidy-neat d v.tidy; ranges = tidy-fits v.marked v.tidy }
-
-pub writes-description : (format : Format) → Writes (description format) (encode_description (width_of format)) (Valid format)
-unfolding description encode_description from
-writes-description format =
-    let w = width_of format in
-    writes_as
-    (writes_line (λ d. mask d / 256) (writes_one has_xy) (λ a h.
-    writes_line (λ d. mask d % 256) (writes_one any) (λ b g.
-    writes_line (λ d. d.channels) (writes-each (writes-channel w (a * 256 + b)) channels) (λ ds h.
-    writes-done _)
-    (λ v d h q. sym (ap (λ x. x.channels) q)))
-    (λ b d g q. let e : mask d ≡ a * 256 + b = mask-bits w (a * 256 + b) d (omega arith) (all_of w _ 16 0 d.channels refl q.0) in omega arith))
-    (λ a d h q.
-    let e : mask d ≡ a * 256 + mask d % 256 = mask-bits w (a * 256 + mask d % 256) d (omega arith) (all_of w _ 16 0 d.channels refl q.1.0) in
-    omega arith))
-    (λ d h.
-    let e : mask d / 256 * 256 + mask d % 256 ≡ mask d = omega arith in
-    (valid format d (sym (ap (λ (x : Description). x.mark) h.1.1.1)) (all_of w (mask d) 16 0 d.channels refl (subst (λ (m : ℕ). Each (GoodChannel w m) channels d.channels) e h.1.1.0)) h.0.1, rw (append-nil, two_digits (mask d) (omega (arith, h.0.0)))))
-    (λ d h.
-    let e : mask d / 256 * 256 + mask d % 256 ≡ mask d = omega arith in
-    let b = bits-mask d h.sixteen in (
-      (omega (arith, b.0), sym (xy-first d (mask d) b.1) ∙ true-is (includes_xy d) h.xy),
-      ((omega arith, refl), (subst (λ (m : ℕ). Each (GoodChannel w m) channels d.channels) (sym e) (of-all w (mask d) 16 0 d.channels refl (as-channels format d h)), λ j. record { channels = d.channels; mark = sym h.marked j })),
-    ))
-
--- so what is read of a format has its mark and is tidy
-pub reads-tidy : ReadsTidy
-reads-tidy format s d n bytes e = let v = (written_read (writes-description format) s bytes e).0 in (v.marked, v.tidy)

@@ -1,5 +1,5 @@
 -- The format identifier and the version that a full record begins with (7.3.2, 7.3.3).
-use Rattle.formats.specs.Reader.{Reader, literal, ◌>>=◌, ◌>>◌}
+use Rattle.formats.specs.Reader.{Reader, literal, ◌>>◌}
 use Rattle.records.specs.Record.{identifier_bytes, version_bytes}
 
 unfoldable pub identification : Reader (Unit {0})

@@ -24,8 +24,8 @@ use Rattle.record_fronts.specs.Front.{Heading, front}
 use Rattle.record_fronts.specs.Fronted.{front_in}
 use Rattle.record_fronts.specs.declared.Front.{Front}
 use Rattle.lookups.specs.Lookup.{refused, point_read, start_of, point_at, behind_front, look_up, answered}
-use Rattle.lookups.specs.LookupLaws.{front-refused, front-looked, not-counted, counted-there, failed-seen}
-use Rattle.lookups.specs.CountingLaws.{counts-at-most}
+use Rattle.lookups.proofs.LookupLaws.{front-refused, front-looked, not-counted, counted-there, failed-seen}
+use Rattle.lookups.proofs.CountingLaws.{counts-at-most}
 use Rattle.lookups.specs.declared.Lookup.{Lookup}
 
 -- the place of a point fits: its index is below a count of 32 bits, its width is at most 32, and its front lies in the bytes

@@ -11,7 +11,7 @@ use Rattle.formats.specs.Writes.{Writes, writes_as, writes-map, writes-done, wri
 use Rattle.formats.specs.Binary.{bit}
 use Rattle.descriptions.specs.Description as described
 use Rattle.descriptions.specs.Description.{encode_description}
-use Rattle.descriptions.specs.EncodedLaws.{writes-description}
+use Rattle.descriptions.proofs.EncodedLaws.{writes-description}
 use Rattle.records.specs.Record.{identifier_bytes, version_bytes, opening, opening_byte, header}
 use Rattle.records.specs.EncodedLaws.{opening-is, opening-good}
 use Rattle.records.specs.Sizes.{header-size}

@@ -1,5 +1,5 @@
 -- Where the parts of a record lie is what reading the record answers: the layout ends as reading does, and its places are those of the record's parts.
-use Rattle.std.specs.Prelude.{◌≡◌, Bool, true, false, List, [], ℕ, ◌+◌, ◌-◌, ◌≤◌, ℤ, length, take, drop}
+use Rattle.std.specs.Prelude.{◌≡◌, Bool, true, false, List, [], ℕ, ◌+◌, ◌≤◌, ℤ, length, take, drop}
 use Rattle.std.proofs.Math.Path.{refl, ap}
 use Rattle.std.proofs.Common.{sym, ◌∙◌, arith, length-drop, length-take-le}
 use Rattle.std.proofs.Math.Logic.{by_cases}

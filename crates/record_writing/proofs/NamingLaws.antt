@@ -8,7 +8,7 @@ use Rattle.formats.specs.Lent.{writing}
 use Rattle.formats.specs.Put.{puts}
 use Rattle.refusals.specs.Stages.{require, or_else, stages}
 use Rattle.refusals.specs.Ranges.{first_misfit, FirstOutside}
-use Rattle.refusals.specs.RangeLaws.{joined, named-first, first-named}
+use Rattle.refusals.proofs.RangeLaws.{joined, named-first, first-named}
 use Rattle.refusals.specs.declared.Quantity.{Quantity}
 use Rattle.refusals.specs.declared.Quantity.TheVariants.{Count}
 use Rattle.refusals.specs.declared.Refusal.TheVariants.{OutOfRange, Amount, ExtendedSize, Room}

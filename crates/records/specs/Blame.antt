@@ -1,5 +1,5 @@
 -- Reading refuses the byte that breaks a rule, with the number of that rule, and refuses nothing else: by the lines of the record's layout.
-use Rattle.std.specs.Prelude.{◌≡◌, refl, ◌↔◌, ◌≢◌, Bool, true, false, cond, ◌||◌, ℕ, ◌+◌, ◌^◌, ◌≤◌, ◌<◌, eqb, length, take, get_or}
+use Rattle.std.specs.Prelude.{◌≡◌, refl, ◌↔◌, ◌≢◌, Bool, true, false, cond, ◌||◌, ℕ, ◌^◌, ◌≤◌, ◌<◌, eqb, length, take, get_or}
 use Rattle.std.proofs.Common.{sym, ap, ◌∙◌, arith, length-append, eqb-true, eq-eqb, ne_eqb}
 use mathlib.Core.List.{List, [], ◌∷◌, ◌++◌, append-nil, append_assoc, flat_map}
 use Rattle.std.proofs.Math.Seq.{take-append_seam, get_or-append_seam}
@@ -14,7 +14,7 @@ use Rattle.channels.specs.declared.Description.{Description}
 use Rattle.formats.specs.Binary.{bit}
 use Rattle.descriptions.specs.Description as described
 use Rattle.descriptions.specs.Description.{encode_description}
-use Rattle.descriptions.specs.EncodedLaws.{writes-description}
+use Rattle.descriptions.proofs.EncodedLaws.{writes-description}
 use Rattle.descriptions.specs.Rules as rules
 use Rattle.descriptions.specs.FaultLaws.{faults-description, breaks-behind, breaks-alone}
 use Rattle.points.specs.Points.{channels, encode_sample, encode_point, ValidPoint}

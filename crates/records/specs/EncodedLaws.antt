@@ -1,5 +1,5 @@
 -- What is read as a record is the encoding of a valid one, and the other way round.
-use Rattle.std.specs.Prelude.{◌≡◌, refl, Bool, true, false, ◌||◌, List, [], ◌++◌, ℕ, ◌+◌, ◌^◌, ◌<◌, eqb, length}
+use Rattle.std.specs.Prelude.{◌≡◌, refl, Bool, true, false, ◌||◌, List, [], ◌++◌, ℕ, ◌^◌, ◌<◌, eqb, length}
 use Rattle.std.proofs.Common.{sym, ap, append-nil, append_assoc, arith, eqb-true}
 use Rattle.std.proofs.Math.Option.{Option, none, some}
 use Rattle.formats.specs.Bytes.{Bytes, impossible}
@@ -7,7 +7,7 @@ use Rattle.formats.specs.Reader.{map}
 use Rattle.formats.specs.Number.{digits, writes-number}
 use Rattle.formats.specs.Writes.{Writes, writes_as, writes-map, writes-done, writes_one, writes-times, writes-free, writes-literal, writes_line}
 use Rattle.formats.specs.Binary.{bit}
-use Rattle.descriptions.specs.EncodedLaws.{writes-description}
+use Rattle.descriptions.proofs.EncodedLaws.{writes-description}
 use Rattle.points.specs.Laws.{writes-point}
 use Rattle.channels.specs.Descriptors.{stored}
 use Rattle.channels.specs.declared.Format.TheVariants.{Full}

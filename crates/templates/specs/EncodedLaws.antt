@@ -14,7 +14,7 @@ use Rattle.formats.specs.Number.{number, digits, value, length_digits, number_ok
 use Rattle.channels.specs.declared.Description.{Description}
 use Rattle.channels.specs.declared.Format.TheVariants.{Compact}
 use Rattle.descriptions.specs.Description.{description, encode_description}
-use Rattle.descriptions.specs.EncodedLaws.{writes-description}
+use Rattle.descriptions.proofs.EncodedLaws.{writes-description}
 use Rattle.descriptions.specs.SizeLaws.{description-size}
 use Rattle.descriptions.specs.Read.{nothing}
 use Rattle.templates.specs.declared.Template.{Template}

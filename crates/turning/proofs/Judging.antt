@@ -10,8 +10,6 @@ use borrow.Author.Tests.{eq-eqb}
 use lib.IntN.{ℤ, pos}
 use lib.ListN.{length, get_or, drop, drop_of_length-le}
 use lib.Seq.{drop-cons, get_or-drop}
-use types.Run.{OneOf}
-use denote.Enum.Declared.{tag_of}
 use Rattle.formats.specs.Reader.{ok, read_at, times}
 use Rattle.formats.specs.Writes.{All}
 use Rattle.refusals.specs.Stages.{require, or_else}
@@ -22,7 +20,6 @@ use Rattle.refusals.specs.declared.Judgement.{Judgement}
 use Rattle.refusals.specs.declared.Judgement.TheVariants.{Passed}
 use Rattle.channels.specs.declared.Place.{Place}
 use Rattle.channels.specs.declared.Place.TheVariants.{Absent, Number}
-use Rattle.channels.specs.contracts.Place as place
 use Rattle.points.specs.Points.{stored_from, channels, point, width, fits_sample}
 use Rattle.point_places.specs.Places.{unstored, places_of, places_in}
 use Rattle.orders.specs.Orders.{size, step, stride, values_of}
@@ -39,7 +36,7 @@ module _ (i from : ℕ) where
   module _ (places : List Place) where
     module _ (h : i < length places) where
       -- a place without a number is passed
-      pub pass-place : OneOf (0 ∷ 1 ∷ []) (tag_of place.the_type (get_or places i Absent)) → misfit_in i from (drop i places) ≡ misfit_in (i + 1) from (drop (i + 1) places)
+      pub pass-place : ((v : ℤ) → get_or places i Absent ≡ Number v → ⊥) → misfit_in i from (drop i places) ≡ misfit_in (i + 1) from (drop (i + 1) places)
       unfolding misfit_in
       pass-place e = rw (add-one, drop-cons places i Absent h) (no_number (λ p. misfit_in i from (p ∷ drop (suc i) places)) _ refl refl (get_or places i Absent) e)
 

@@ -1,3 +1,5 @@
+-- `DemandLaws`: that what is claimed of turning is so. The others: what the functions' proofs share.
+pub mod DemandLaws
 pub mod Standing
 pub mod Judging
 pub mod Putting

@@ -5,8 +5,6 @@ use mathlib.Core.List.{List, [], ◌∷◌, ◌++◌, flat_map}
 use Prim.Native.Nat.{ℕ, suc, ◌+◌, ◌*◌, ◌%◌, ◌≤◌, ◌<◌}
 use native.Mathlib.Numerals.{add-one}
 use native.Mathlib.Omega.{arith}
-use types.Run.{OneOf}
-use denote.Enum.Declared.{tag_of}
 use lib.Dec.{eqb}
 use lib.IntN.{ℤ}
 use lib.ListN.{length, get_or, drop, length-append, drop_of_length-le}
@@ -19,7 +17,6 @@ use Rattle.channels.specs.Channel.{S}
 use Rattle.channels.specs.declared.Place.{Place}
 use Rattle.channels.specs.declared.Place.TheVariants.{Number}
 use Rattle.channels.specs.declared.Stored.{Stored}
-use Rattle.channels.specs.contracts.Place as place
 use Rattle.point_places.specs.Places.{unstored, places_of, places_in}
 use Rattle.points.specs.Points.{stored_from, channels, point, widths, width}
 use Rattle.values.specs.Values.{stored_sample, number_in, sample_bytes, bytes_of}
@@ -53,7 +50,7 @@ places-bytes i included (false ∷ flags) p h = go (get_or included 0 false) (pl
 
 -- those from channel i on: one that is no number has no byte, and a number has one
 module _ (places : List Place) (i : ℕ) (d : Place) (h : i < length places) where
-  pub pass-place : OneOf (0 ∷ 1 ∷ []) (tag_of place.the_type (get_or places i d)) → bytes_in i (drop i places) ≡ bytes_in (i + 1) (drop (i + 1) places)
+  pub pass-place : ((v : ℤ) → get_or places i d ≡ Number v → ⊥) → bytes_in i (drop i places) ≡ bytes_in (i + 1) (drop (i + 1) places)
   unfolding bytes_in
   pass-place q = rw (add-one, drop-cons places i d h) (no_number (λ p. bytes_in i (p ∷ drop (suc i) places)) _ refl refl (get_or places i d) q)
 

@@ -1,12 +1,10 @@
 -- The points of a record that were read from a place on, each of one width: how many they are, where each stands, and that it ends inside the slice.
-use mathlib.Core.Path.{◌≡◌}
+use mathlib.Core.Path.{◌≡◌, refl}
 use mathlib.Core.Bool.{Bool}
-use mathlib.Core.List.{List, [], ◌∷◌}
+use mathlib.Core.List.{List, []}
 use Prim.Native.Nat.{ℕ, suc, ◌+◌, ◌*◌, ◌≤◌, ◌<◌}
 use native.Mathlib.Nat.{mul-le-mul_right}
 use native.Mathlib.Omega.{arith}
-use types.Run.{OneOf, miss}
-use denote.Enum.Declared.{tag_of}
 use lib.IntN.{ℤ}
 use lib.ListN.{length, get_or}
 use Rattle.formats.specs.Reader.{ok, read_at, times}
@@ -14,15 +12,14 @@ use Rattle.formats.specs.Compose.{at-within}
 use Rattle.formats.specs.Fixed.{times-length, fixed-times}
 use Rattle.channels.specs.declared.Place.{Place}
 use Rattle.channels.specs.declared.Place.TheVariants.{Absent, Constant, Number}
-use Rattle.channels.specs.contracts.Place as place
 use Rattle.points.specs.Points.{channels, point, width}
 use Rattle.points.specs.Laws.{fixed-point, nth-point, point-size}
 
 -- a place that code found to have no number is absent or constant
-pub no_number : {A : Type 0} (f : Place → A) (rest : A) → f Absent ≡ rest → f Constant ≡ rest → (p : Place) → OneOf (0 ∷ 1 ∷ []) (tag_of place.the_type p) → f p ≡ rest
+pub no_number : {A : Type 0} (f : Place → A) (rest : A) → f Absent ≡ rest → f Constant ≡ rest → (p : Place) → ((v : ℤ) → p ≡ Number v → ⊥) → f p ≡ rest
 no_number f rest a c Absent h = a
 no_number f rest a c Constant h = c
-no_number f rest a c (Number v) h = absurd (miss (0 ∷ 1 ∷ []) 2 tt h)
+no_number f rest a c (Number v) h = absurd (h v refl)
 
 module _ (s : List ℕ) (start : ℕ) (stored : List Bool) (count : ℕ) (points : List (List ℤ)) (end : ℕ) (within : start ≤ length s) (e : read_at (times count (point 2 stored)) s start ≡ ok points end) where
   pub counted : length points ≡ count

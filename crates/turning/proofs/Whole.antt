@@ -36,7 +36,7 @@ use Rattle.record_fronts.specs.Fronted.{front_in}
 use Rattle.record_fronts.specs.declared.Front.{Front}
 use Rattle.record_layouts.specs.Layout.{layout_at}
 use Rattle.record_layouts.specs.LayoutLaws.{Lying, read-lies}
-use Rattle.bodies.specs.WritingLaws.{passes}
+use Rattle.bodies.proofs.WritingLaws.{passes}
 use Rattle.turning.specs.Turning.{body_bytes, body_judgement, judged_body, turning, put_both, turned, turn_of}
 use Rattle.turning.specs.declared.Turned.TheVariants.{Both, Refused}
 use Rattle.turning.proofs.Standing.{counted, ith-size}

@@ -1,9 +1,8 @@
 -- `Turning`: what a full record is made, what keeps it from that, and what becomes of the outputs.
--- `Demands`: what is claimed of turning. `DemandLaws`: that it is so. `Examples`: those of request L4's specification.
+-- `Demands`: what is claimed of turning. That it is so is proved in proofs/. `Examples`: those of request L4's specification.
 -- `Parts`: what private functions answer. `Answers`: no public function has a second answer.
 pub mod Turning
 pub mod Demands
-pub mod DemandLaws
 pub mod Examples
 pub mod Parts
 pub mod Answers

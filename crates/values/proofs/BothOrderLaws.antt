@@ -9,7 +9,7 @@ use native.Mathlib.Omega.{arith}
 use Rattle.formats.specs.Bytes.{impossible}
 use Rattle.refusals.specs.Stages.{require, or_else}
 use Rattle.refusals.specs.Ranges.{first_misfit}
-use Rattle.refusals.specs.RangeLaws.{joined}
+use Rattle.refusals.proofs.RangeLaws.{joined}
 use Rattle.refusals.specs.declared.Quantity.TheVariants.{Value}
 use Rattle.refusals.specs.declared.Refusal.{Refusal}
 use Rattle.refusals.specs.declared.Refusal.TheVariants.{OutOfRange, Amount}

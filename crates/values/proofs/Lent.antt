@@ -16,7 +16,7 @@ use Rattle.formats.specs.Lent.{Writing, writing}
 use Rattle.formats.specs.Laid.{Room, Laid, Owed, laid_none}
 use Rattle.refusals.specs.Stages.{require, or_else}
 use Rattle.refusals.specs.Ranges.{first_misfit}
-use Rattle.refusals.specs.RangeLaws.{joined}
+use Rattle.refusals.proofs.RangeLaws.{joined}
 use Rattle.refusals.specs.declared.Quantity.TheVariants.{Value}
 use Rattle.refusals.specs.declared.Refusal.TheVariants.{OutOfRange, Amount}
 use Rattle.refusals.specs.declared.Judgement.{Judgement}

@@ -18,7 +18,7 @@ use Rattle.formats.specs.Laid.{Room, Laid}
 use Rattle.formats.specs.Writes.{All, all_append, Each, encode_each}
 use Rattle.refusals.specs.Stages.{require, or_else, require-passed, or-else-passed}
 use Rattle.refusals.specs.Ranges.{Ranged, ◌fits_if◌, first_misfit, FirstOutside}
-use Rattle.refusals.specs.RangeLaws.{joined, named-first, first-named, of-first}
+use Rattle.refusals.proofs.RangeLaws.{joined, named-first, first-named, of-first}
 use Rattle.refusals.specs.declared.Quantity.{Quantity}
 use Rattle.refusals.specs.declared.Quantity.TheVariants.{Value}
 use Rattle.refusals.specs.declared.Refusal.TheVariants.{OutOfRange, Amount}

@@ -15,7 +15,6 @@ use Rattle.record_reading.specs.declared.Verdict.{Verdict}
 use Rattle.record_reading.specs.declared.Verdict.TheVariants as verdict
 use Rattle.walks.specs.Walk.{stays, stepped, step_of}
 use Rattle.walks.specs.declared.Found.TheVariants as found
-use Rattle.walks.specs.declared.Step.{Step}
 
 pub at-end : (file : List ℕ) (place : ℕ) → length file ≤ place → stays found.End place ≡ step_of file place
 unfolding step_of

@@ -52,7 +52,12 @@ fn write_record(
         order,
         &mut out[0..room],
     );
-    put(text, used, of_written(written), hexadecimal::first(&out, room))
+    put(
+        text,
+        used,
+        of_written(written),
+        hexadecimal::first(&out, room),
+    )
 }
 
 fn ask(
@@ -124,7 +129,12 @@ fn write_described(
         template.maximum,
         &mut out[0..room],
     );
-    put(text, used, of_template(written), hexadecimal::first(&out, room))
+    put(
+        text,
+        used,
+        of_template(written),
+        hexadecimal::first(&out, room),
+    )
 }
 
 fn of_template(written: template_writing::Written) -> Answer {

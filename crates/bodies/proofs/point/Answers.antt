@@ -22,9 +22,9 @@ shown : (c : Joined-pointed) → let a = c.args in
 shown c =
     let r = rule (goal.at.Joined-pointed c).After-rule_of-rule in
     elim c.match-pointed.branch [
-      in-Point w ↦
+      | in-Point w ↦
           rw (w.included-is, w.stored-is, w.start-is) (shown-there _ _ _ (sym c.judge_point-pointed.ensures ∙ w.in-Point.is) _ r w.width.ensures.0)
-    | in_default w ↦ rw (w.included-is, w.stored-is, w.start-is) (shown-none _ _ _ c.judge_point-pointed.ensures w.in_default.not-Point)
+      | in_default w ↦ rw (w.included-is, w.stored-is, w.start-is) (shown-none _ _ _ c.judge_point-pointed.ensures w.in_default.not-Point)
     ]
 
 pub returns : goal.returns

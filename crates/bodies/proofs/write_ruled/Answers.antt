@@ -15,7 +15,7 @@ use Rattle.values.proofs.ValueLaws.{fits-length, put-laid}
 use Rattle.bodies.specs.Body.{encode_body}
 use Rattle.bodies.specs.Writing.{put_where, write_ruled}
 use Rattle.bodies.specs.declared.Written.TheVariants as written
-use Rattle.bodies.specs.WritingLaws.{Passes, passes, fits-small}
+use Rattle.bodies.proofs.WritingLaws.{Passes, passes, fits-small}
 use Rattle.bodies.proofs.write_ruled.Goals as goal
 use Rattle.bodies.proofs.write_ruled.Goals.{After-judge_values-judged, After-width, Start}
 

@@ -9,7 +9,7 @@ use Rattle.record_fronts.specs.Fronted.{front_in}
 use Rattle.record_layouts.specs.Layout.{layout_behind, layout_at}
 use Rattle.record_points.proofs.Pointing.{Shown, shown-there, shown-none, points-start, point-within}
 use Rattle.record_points.proofs.point.Goals as goal
-use Rattle.record_points.proofs.point.Goals.{After-layout_behind-layout, Then-index-count, then-index-count, else-index-count}
+use Rattle.record_points.proofs.point.Goals.{After-layout_behind-layout, Joined-index-count, Then-index-count, then-index-count, else-index-count}
 
 -- the front and the layout are those of the bytes
 module _ (b : After-layout_behind-layout) where
@@ -40,11 +40,13 @@ pub overflow_add-start : goal.overflow_add-start
 overflow_add-start c = let t = (goal.at.overflow_add-start c).Then-index-count in let z = within t in record { fits = omega (arith, z, c.well_formed.0.0) }
 
 -- where the ways meet, the places are read by the flags of the front, or of no channel
+shown : (c : Joined-index-count) → Shown c.args.bytes.now c.args.index c.if-index-count.included c.if-index-count.stored c.if-index-count.start
+shown c =
+    let b = (goal.at.Joined-index-count c).After-layout_behind-layout in
+    elim c.if-index-count.branch [
+      | then-index-count w ↦ rw (w.included-is, w.stored-is, w.start-is) (shown-there _ _ (laid b) _ (fronted b) w.if-index-count.true)
+      | else-index-count w ↦ rw (w.included-is, w.stored-is, w.start-is) (shown-none _ _ (laid b) _ w.if-index-count.false)
+    ]
+
 pub returns : goal.returns
-returns c =
-    let b = (goal.at.returns c).After-layout_behind-layout in
-    let shown : Shown c.args.bytes.now c.args.index c.if-index-count.included c.if-index-count.stored c.if-index-count.start =
-        elim c.if-index-count.branch [
-            then-index-count w ↦ rw (w.included-is, w.stored-is, w.start-is) (shown-there _ _ (laid b) _ (fronted b) w.if-index-count.true)
-          | else-index-count w ↦ rw (w.included-is, w.stored-is, w.start-is) (shown-none _ _ (laid b) _ w.if-index-count.false) ] in
-    c.places.ensures ∙ shown
+returns c = c.places.ensures ∙ shown (goal.at.returns c).Joined-index-count
