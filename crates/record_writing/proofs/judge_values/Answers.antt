@@ -16,7 +16,7 @@ module _ (c : After-judge-judged) where
   start = (goal.at.After-judge-judged c).Start
 
   counted : start.args.count < 16777216
-  counted = omega (arith, c.if-count-gt16777215.false)
+  counted = omega arith
 
   judged : judgement_of 2 start.args.stored start.args.order start.args.count start.args.values.now ≡ c.judge-judged.result
   judged = sym c.judge-judged.ensures

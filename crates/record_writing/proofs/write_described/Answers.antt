@@ -10,8 +10,7 @@ use borrow.Author.Tests.{le-leb, lt-leb}
 use Rattle.formats.specs.Lent.{writing}
 use Rattle.refusals.specs.declared.Judgement.{Judgement}
 use Rattle.refusals.specs.declared.Judgement.TheVariants.{Passed}
-use Rattle.channels.specs.Descriptors.{stored}
-use Rattle.records.specs.Record.{Record, encode_extended}
+use Rattle.records.specs.Record.{encode_extended}
 use Rattle.record_writing.specs.Write.{put_where, NumbersPass}
 use Rattle.record_writing.specs.Parts.{record_bytes, write_described}
 use Rattle.record_writing.proofs.WriteLaws.{numbers-pass, bytes-length}
