@@ -22,9 +22,9 @@ use Rattle.record_reading.specs.declared.Judged.{Judged}
 use Rattle.record_points.specs.declared.Pointed.{Pointed}
 use Rattle.record_points.specs.declared.Pointed.TheVariants as pointed
 use Rattle.record_writing.specs.Write.{record_in, write_of}
-use Rattle.record_writing.specs.WriteLaws.{passes-valid}
-use Rattle.record_writing.specs.RoundTrips as trips
-use Rattle.record_writing.specs.RoundTrips.{Wrote}
+use Rattle.record_writing.proofs.WriteLaws.{passes-valid}
+use Rattle.record_writing.proofs.RoundTrips as trips
+use Rattle.record_writing.proofs.RoundTrips.{Wrote}
 use Rattle.record_writing.specs.declared.Written.{Written}
 use Rattle.record_writing.specs.declared.Written.TheVariants as written
 use Rattle.demands.specs.Promises as promises

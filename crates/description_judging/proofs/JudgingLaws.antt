@@ -9,6 +9,8 @@ use Rattle.formats.specs.Bytes.{impossible}
 use Rattle.refusals.specs.Stages.{require, or_else, stages, require-passed, or-else-passed, stages-passed}
 use Rattle.refusals.specs.Ranges.{first_misfit}
 use Rattle.refusals.proofs.RangeLaws.{passed-fit, fit_passed, joined}
+use Rattle.refusals.specs.declared.Where.TheVariants.{Nowhere}
+use Rattle.refusals.specs.declared.Refusal.TheVariants.{XOrY, Untidy}
 use Rattle.refusals.specs.declared.Judgement.TheVariants as judgement
 use Rattle.channels.specs.Channel.{is_same, signed_of, width_of, same-is, is_same_lem}
 use Rattle.channels.specs.declared.Descriptor.{Descriptor}
@@ -36,12 +38,6 @@ all-five a b c d e h =
 
 -- of a descriptor
 module _ (w channel : ℕ) (d : Descriptor) where
-  of-fit : first_misfit (numbers_of w channel d) ≡ judgement.Passed → fits_descriptor w channel d ≡ true
-  unfolding numbers_of fits_descriptor
-  of-fit e =
-      let x = passed-fit _ e in
-      rw (x.0, x.1.0, x.1.1.0, x.1.1.1.0, x.1.1.1.1.0)
-
   of-passed : fits_descriptor w channel d ≡ true → first_misfit (numbers_of w channel d) ≡ judgement.Passed
   unfolding numbers_of fits_descriptor
   of-passed e =
@@ -54,6 +50,12 @@ module _ (w channel : ℕ) (d : Descriptor) where
       (fits_attribute w (signed_of channel) d.mean)
       (fits_attribute w false d.deviation)
       e)
+
+  of-fit : first_misfit (numbers_of w channel d) ≡ judgement.Passed → fits_descriptor w channel d ≡ true
+  unfolding numbers_of fits_descriptor
+  of-fit e =
+      let x = passed-fit _ e in
+      rw (x.0, x.1.0, x.1.1.0, x.1.1.1.0, x.1.1.1.1.0)
 
 module _ (w : ℕ) where
   -- of the channels from i on
@@ -97,8 +99,11 @@ module _ (format : Format) (d : Description) where
   unfolding judgement_of neat_in
   passed-sound e =
       let s = stages-passed _ e in
-      let n = both (is_same d.mark format) (neat d) (require-passed _ _ s.1.0) in
-      record { xy = holds (require-passed _ _ s.0); marked = same-is d.mark format n.0; neat = holds n.1; ranges = holds (none_named (width_of format) d s.1.1.0) }
+      let named : require (includes_xy d) (XOrY Nowhere) ≡ judgement.Passed = cc in
+      let written : require (neat_in format d) Untidy ≡ judgement.Passed = cc in
+      let ranged : first_misfit (numbers (width_of format) d) ≡ judgement.Passed = cc in
+      let n = both (is_same d.mark format) (neat d) (require-passed _ _ written) in
+      record { xy = holds (require-passed _ _ named); marked = same-is d.mark format n.0; neat = holds n.1; ranges = holds (none_named (width_of format) d ranged) }
 
   -- passed and sixteen channels: that is to be valid
   pub passed-valid : judgement_of format d ≡ judgement.Passed → length d.channels ≡ 16 → Valid format d

@@ -20,7 +20,7 @@ use Rattle.records.specs.Demands.{write-after-read}
 use Rattle.record_reading.specs.Verdict.{verdict_from, judged, unjudged, judged_whole}
 use Rattle.record_reading.specs.declared.Verdict.TheVariants as verdict
 use Rattle.record_writing.specs.Write.{record_in, write_in}
-use Rattle.record_writing.specs.RoundTrips as trips
+use Rattle.record_writing.proofs.RoundTrips as trips
 use Rattle.demands.specs.Reading.{extended-told}
 use Rattle.demands.specs.RoundTripLaws.{Spoken, spoken, in_a_row}
 use Rattle.demands.specs.Saying.{numbers_of}

@@ -42,7 +42,7 @@ use Rattle.records.specs.Record.{Record, Valid, present, extended_bytes}
 use Rattle.records.specs.Demands.{write-after-read}
 use Rattle.record_points.specs.Pointing.{places_in}
 use Rattle.record_writing.specs.Write as record-writing
-use Rattle.record_writing.specs.RoundTrips.{read-written}
+use Rattle.record_writing.proofs.RoundTrips.{read-written}
 use Rattle.record_writing.specs.declared.Written.TheVariants as record-written
 use Rattle.templates.specs.Template.{encode}
 use Rattle.templates.specs.Reading.{accepted, template_of}

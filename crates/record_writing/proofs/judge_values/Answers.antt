@@ -3,7 +3,7 @@ use mathlib.Core.Path.{◌≡◌, sym, ◌∙◌}
 use Prim.Native.Nat.{◌<◌}
 use native.Mathlib.Omega.{arith}
 use Rattle.values.specs.Values.{judgement_of}
-use Rattle.record_writing.specs.WriteLaws.{at_count, at-values, at-extended, at_last}
+use Rattle.record_writing.proofs.WriteLaws.{at_count, at-values, at-extended, at_last}
 use Rattle.record_writing.proofs.judge_values.Goals as goal
 use Rattle.record_writing.proofs.judge_values.Goals.{After-judge-judged, In_default, Start}
 
@@ -16,7 +16,7 @@ module _ (c : After-judge-judged) where
   start = (goal.at.After-judge-judged c).Start
 
   counted : start.args.count < 16777216
-  counted = omega (arith, c.if-count-gt16777215.false)
+  counted = omega arith
 
   judged : judgement_of 2 start.args.stored start.args.order start.args.count start.args.values.now ≡ c.judge-judged.result
   judged = sym c.judge-judged.ensures

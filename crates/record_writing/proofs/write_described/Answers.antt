@@ -10,11 +10,10 @@ use borrow.Author.Tests.{le-leb, lt-leb}
 use Rattle.formats.specs.Lent.{writing}
 use Rattle.refusals.specs.declared.Judgement.{Judgement}
 use Rattle.refusals.specs.declared.Judgement.TheVariants.{Passed}
-use Rattle.channels.specs.Descriptors.{stored}
-use Rattle.records.specs.Record.{Record, encode_extended}
+use Rattle.records.specs.Record.{encode_extended}
 use Rattle.record_writing.specs.Write.{put_where, NumbersPass}
 use Rattle.record_writing.specs.Parts.{record_bytes, write_described}
-use Rattle.record_writing.specs.WriteLaws.{numbers-pass, bytes-length}
+use Rattle.record_writing.proofs.WriteLaws.{numbers-pass, bytes-length}
 use Rattle.record_writing.specs.declared.Written.TheVariants as written
 use Rattle.record_writing.proofs.write_described.Goals as goal
 use Rattle.record_writing.proofs.write_described.Goals.{After-judge_values-judged, After-put_record, After-record_size-length, In_default, Start}

@@ -8,7 +8,7 @@ use Rattle.channels.specs.declared.Format.TheVariants.{Full}
 use Rattle.description_writing.specs.Write.{put_if}
 use Rattle.descriptions.specs.SizeLaws.{description-size}
 use Rattle.description_writing.specs.AsideLaws.{aside-done, aside-refused}
-use Rattle.record_writing.specs.WriteLaws.{described-written}
+use Rattle.record_writing.proofs.WriteLaws.{described-written}
 use Rattle.record_writing.proofs.Laying.{refused-written}
 use Rattle.record_writing.proofs.write_in.Goals as goal
 use Rattle.record_writing.proofs.write_in.Goals.{After-put, After-write_described, Start}

@@ -7,7 +7,7 @@ use Rattle.std.proofs.Math.Option.{none, some}
 use Rattle.formats.specs.Bytes.{impossible}
 use Rattle.formats.specs.Lent.{Writing, writing}
 use Rattle.formats.specs.Put.{puts}
-use Rattle.refusals.specs.Stages.{require, stages}
+use Rattle.refusals.specs.Stages.{stages}
 use Rattle.refusals.specs.declared.Quantity.TheVariants.{Count}
 use Rattle.refusals.specs.declared.Refusal.{Refusal}
 use Rattle.refusals.specs.declared.Refusal.TheVariants.{OutOfRange, ExtendedSize, Room}
@@ -19,7 +19,6 @@ use Rattle.description_judging.proofs.NamingLaws.{names-given}
 use Rattle.orders.specs.Orders.{size, Same}
 use Rattle.orders.proofs.OrderLaws.{same_points}
 use Rattle.orders.specs.declared.Order.TheVariants.{Point, Column}
-use Rattle.values.specs.Values.{judgement_of}
 use Rattle.values.specs.BothOrders.{NamesNoValue, SameJudgement}
 use Rattle.values.proofs.BothOrderLaws.{same-behind, same-stage, same_test, same-judged}
 use Rattle.channels.specs.Descriptors.{stored}
@@ -46,11 +45,11 @@ module _ (d : Description) (count : ℕ) (rows columns : List ℤ) (wanted : Boo
   judged : SameJudgement count k (judgement_in Point d count rows wanted extended) (judgement_in Column d count columns wanted extended)
   unfolding judgement_in numbers_judged stages
   judged =
-      same-behind count k (described.judgement_of Full d) (described.judgement_of Full d) _ _ (same-stage count k (described.judgement_of Full d) (no_value d))
-      (same-behind count k (require (count_fits count) (OutOfRange Count)) (require (count_fits count) (OutOfRange Count)) _ _
-      (same_test count k (count_fits count) (OutOfRange Count) (λ at channel e. impossible (cc)))
-      (same-behind count k (judgement_of 2 (stored d) Point count rows) (judgement_of 2 (stored d) Column count columns) _ _ (same-judged 2 (stored d) count rows columns many same)
-      (same-behind count k (require small ExtendedSize) (require small ExtendedSize) Passed Passed (same_test count k small ExtendedSize (λ at channel e. impossible (cc))) tt)))
+      let by-description = same-stage count k (described.judgement_of Full d) (no_value d) in
+      let by-count = same_test count k (count_fits count) (OutOfRange Count) (λ at channel e. impossible (cc)) in
+      let by-values = same-judged 2 (stored d) count rows columns many same in
+      let by-size = same_test count k small ExtendedSize (λ at channel e. impossible (cc)) in
+      search (same-behind, by-description, by-count, by-values, by-size)
 
   put : (bytes out : List ℕ) (a b : Judgement) → SameJudgement count k a b → SameWriting count k (put_where bytes out a) (put_where bytes out b)
   unfolding put_where

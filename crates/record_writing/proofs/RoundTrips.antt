@@ -28,7 +28,7 @@ use Rattle.records.specs.Record.{Record, full_record, encode, ValidExtended, Val
 use Rattle.records.specs.Demands.{read-after-write, write-after-read}
 use Rattle.record_reading.specs.Verdict.{verdict_from, description_in, judged}
 use Rattle.record_writing.specs.Write.{record_in, judgement_in, Passes, put_where, write_in}
-use Rattle.record_writing.specs.WriteLaws.{passes, passes-valid, passing}
+use Rattle.record_writing.proofs.WriteLaws.{passes, passes-valid, passing}
 use Rattle.record_reading.specs.declared.Verdict.TheVariants as verdict
 use Rattle.record_writing.specs.declared.Written.TheVariants as written
 
