@@ -1,8 +1,7 @@
 -- `channels::included_channels` meets its contract. The invariant: the flags are those set so far, and what the channels left are.
 use mathlib.Core.Path.{◌≡◌, refl, sym, ◌∙◌}
-use Prim.Native.Nat.{◌-◌}
 use native.Mathlib.Omega.{arith}
-use lib.ListN.{length, length-map, length-set}
+use lib.ListN.{length, length-set}
 use Rattle.channels.proofs.Flagging.{flagging, flag-next, flagged-all}
 use Rattle.channels.proofs.included_channels.Invariants.{is_included}
 use Rattle.channels.proofs.included_channels.Goals as goal

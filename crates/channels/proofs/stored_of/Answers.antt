@@ -4,6 +4,7 @@ use mathlib.Core.Bool.{Bool, true, false}
 use Prim.Native.Nat.{◌^◌}
 use lib.IntN.{ℤ, pos, ◌+ℤ◌}
 use lib.Signed.{lt_z, le_z}
+use borrow.Author.Rules.{rules}
 use mir.Syntax.{w32, w64}
 use mir.Val.{SFits, to_z, of_z}
 use mir.ValLaws.{to_z-of_z}
@@ -57,7 +58,7 @@ module _ (c : After-limit_of) where
   start = (goal.at.After-limit_of c).Start
 
   low : lt_z (meant start) (pos 0) ≡ false
-  low = rw (number (goal.at.After-limit_of c).After-offset_of) at c.if-number-lt0.false
+  low = rw (← number (goal.at.After-limit_of c).After-offset_of) (search rules)
 
   high : (t : Bool)
       → le_z
