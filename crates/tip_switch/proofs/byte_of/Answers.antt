@@ -2,6 +2,7 @@
 use mathlib.Core.Path.{◌≡◌, refl}
 use mathlib.Core.Bool.{Bool, true, false}
 use native.Mathlib.Omega.{arith}
+use borrow.Author.Rules.{rules}
 use lib.IntN.{ℤ, pos}
 use lib.Signed.{lt_z, le_z}
 use mir.Syntax.{w32}
@@ -28,17 +29,17 @@ pub returns-then-state-ge2 : goal.returns-then-state-ge2
 unfolding byte_if is_state
 returns-then-state-ge2 c =
     let s = (goal.at.returns-then-state-ge2 c).Start in
-    found 2 s.args.state false true (low s.ranges.state false c.if-state-lt0.false) (high s.ranges.state true c.if-state-ge2.true) _
+    found 2 s.args.state false true (low s.ranges.state false (search rules)) (high s.ranges.state true (search rules)) _
 
 pub overflow_cast-result : goal.overflow_cast-result
 overflow_cast-result c =
     let s = (goal.at.overflow_cast-result c).Start in
     rw (to_z-of_z w32 _ s.ranges.state)
-    (small 2 (omega arith) s.args.state (low s.ranges.state false c.if-state-lt0.false) (high s.ranges.state false c.if-state-ge2.false))
+    (small 2 (omega arith) s.args.state (low s.ranges.state false (search rules)) (high s.ranges.state false (search rules)))
 
 pub returns : goal.returns
 unfolding byte_if is_state byte_of
 returns c =
     let s = (goal.at.returns c).Start in
     rw (to_z-of_z w32 _ s.ranges.state)
-    (found 2 s.args.state false false (low s.ranges.state false c.if-state-lt0.false) (high s.ranges.state false c.if-state-ge2.false) _)
+    (found 2 s.args.state false false (low s.ranges.state false (search rules)) (high s.ranges.state false (search rules)) _)
