@@ -1,14 +1,13 @@
 -- What the functions of reading hand out of a record that some bytes begin with, whatever follows it: for any answer that meets the promise.
 -- `judge` and `judge_whole` are in `Judging`.
-use Rattle.std.specs.Prelude.{◌≡◌, List, [], ◌++◌, ℕ, ◌-◌, ◌≤◌, ◌<◌, get_or}
-use Rattle.std.proofs.Math.Path.{sym, ap}
-use Rattle.std.proofs.Common.{◌∙◌, arith, take-append-drop, length-drop}
+use Rattle.std.specs.Prelude.{◌≡◌, List, [], ℕ, ◌-◌, ◌≤◌, ◌<◌, get_or}
+use Rattle.std.proofs.Common.{◌∙◌, arith, length-drop}
 use Rattle.std.proofs.Math.Option.{none}
 use Rattle.std.proofs.Math.Nat.{sub-zero}
 use borrow.Author.Tests.{lt-ltb, le-ltb}
 use Rattle.std.specs.Borrow.{Bor}
 use Rattle.std.proofs.Math.ListN.{length, take, drop}
-use Rattle.std.proofs.Math.Seq.{length-take-le, take_all}
+use Rattle.std.proofs.Math.Seq.{take_all}
 use Rattle.formats.specs.Part.{Part}
 use Rattle.formats.specs.Reader.{ok, run}
 use Rattle.refusals.specs.declared.Refusal.{Refusal}
@@ -16,7 +15,7 @@ use Rattle.refusals.specs.declared.Refusal.TheVariants.{NoPoint}
 use Rattle.channels.specs.declared.Place.{Place}
 use Rattle.point_places.specs.Places.{places_of, nowhere}
 use Rattle.channels.specs.Descriptors.{included, stored}
-use Rattle.records.specs.Record.{full_record, encode, IsRecord, extended_bytes}
+use Rattle.records.specs.Record.{full_record, IsRecord, extended_bytes}
 use Rattle.record_points.specs.Pointing.{pointed_at, places_in}
 use Rattle.record_parts.specs.Parts.{extended_place, extended_size, rest_place, rest_size}
 use Rattle.record_reading.specs.declared.Judged.{Judged}
@@ -25,7 +24,7 @@ use Rattle.record_points.specs.declared.Pointed.{Pointed}
 use Rattle.record_points.specs.declared.Pointed.TheVariants as pointed
 use Rattle.demands.specs.Promises as promises
 use Rattle.demands.specs.JudgingLaws.{record-is-read}
-use Rattle.demands.specs.ReadingLaws.{record-ends-in, last-part, NothingIn, nothing-in}
+use Rattle.demands.specs.ReadingLaws.{extended-handed, NothingIn, nothing-in}
 
 -- the first n bytes of what is lent are a record
 module _ (s : Bor (List ℕ)) (n : ℕ) (within : n ≤ length s.now) (x : IsRecord (take n s.now)) where
@@ -36,14 +35,7 @@ module _ (s : Bor (List ℕ)) (n : ℕ) (within : n ≤ length s.now) (x : IsRec
 
   -- extended hands out the extended data, and no byte where the record has none
   pub extended-told : (r : Bor (List ℕ)) → promises.extended s r → r.now ≡ extended_bytes x.value.extended
-  unfolding extended_place extended_size
-  extended-told r part =
-      let last = extended_bytes x.value.extended in
-      let size : length (encode x.value) ≡ n = sym (ap length x.written) ∙ length-take-le n s.now within in
-      let split : encode x.value ++ drop n s.now ≡ s.now = rw x.written at (take-append-drop n s.now) in
-      rw (read, ← size) at part.bytes
-      ∙ ap (λ b. take (length last) (drop (length (encode x.value) - length last) b)) (sym split)
-      ∙ last-part (encode x.value) last (drop n s.now) (record-ends-in x.value)
+  extended-told r part = extended-handed s n within x r part
 
   -- that is the empty part at the record's end
   pub no-extended-told : x.value.extended ≡ none → (r : Bor (List ℕ)) → promises.extended s r → Part s r n 0

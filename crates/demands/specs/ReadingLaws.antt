@@ -1,9 +1,10 @@
 -- Where the parts of a record lie among its bytes, and how the numbers of its points stand in one row.
 use Rattle.std.specs.Prelude.{◌≡◌, refl, Bool, true, false, ℕ, suc, ◌+◌, ◌*◌, ◌-◌, ◌≤◌, ◌<◌, ℤ, pos, length, take, drop, get_or}
-use Rattle.std.proofs.Common.{sym, ap, ap₂, ◌∙◌, mul-le-mul_right, arith, length-append, length-drop, length-take-le, drop_at, get_or-take, get_or-drop, ext_get_or}
+use Rattle.std.proofs.Common.{sym, ap, ap₂, ◌∙◌, mul-le-mul_right, arith, length-append, length-drop, length-take-le, take-append-drop, drop_at, get_or-take, get_or-drop, ext_get_or}
 use mathlib.Core.List.{List, [], ◌∷◌, ◌++◌, append_assoc, flat_map, flatten}
 use Rattle.std.proofs.Math.Option.{Option, none, some}
 use Rattle.std.proofs.Math.Seq.{take-append_seam}
+use Rattle.std.specs.Borrow.{Bor}
 use Rattle.formats.specs.Bytes.{impossible}
 use Rattle.formats.specs.Reader.{Answer, ok, short, bad}
 use Rattle.formats.specs.Number.{digits}
@@ -16,13 +17,15 @@ use Rattle.orders.specs.Orders.{size, step, stride, points_of}
 use Rattle.orders.proofs.OrderLaws.{points-many, number_is, size-at}
 use Rattle.orders.specs.declared.Order.TheVariants.{Point}
 use Rattle.channels.specs.Descriptors.{stored}
-use Rattle.records.specs.Record.{Record, header, opening_byte, encode_extended, encode, extended_bytes}
+use Rattle.records.specs.Record.{Record, header, opening_byte, encode_extended, encode, IsRecord, extended_bytes}
 use Rattle.record_reading.specs.Verdict.{verdict_from, judged}
 use Rattle.record_points.specs.Pointing.{pointed_at, places_in}
 use Rattle.record_parts.specs.Parts.{extended_place, extended_size, rest_place, rest_size}
 use Rattle.record_reading.specs.declared.Verdict.TheVariants as verdict
 use Rattle.record_points.specs.declared.Pointed.TheVariants as pointed
+use Rattle.demands.specs.Promises as promises
 use Rattle.demands.specs.Saying.{numbers_in, numbers_of}
+use Rattle.demands.specs.JudgingLaws.{record-is-read}
 
 -- ---- The extended data are a record's last bytes
 
@@ -49,6 +52,17 @@ last-part b last rest x =
     let place : length x.first ≡ length b - length last = omega (arith, ap length x.together, length-append x.first last) in
     let whole : b ++ rest ≡ x.first ++ (last ++ rest) = ap (λ l. l ++ rest) x.together ∙ append_assoc x.first last rest in
     ap (λ l. take (length last) (drop (length b - length last) l)) whole ∙ ap (take (length last)) (drop_at x.first (last ++ rest) (length b - length last) place) ∙ take-append_seam last rest
+
+-- so extended hands them out of a record that some bytes begin with, whatever follows it
+pub extended-handed : (s : Bor (List ℕ)) (n : ℕ) → n ≤ length s.now → (x : IsRecord (take n s.now)) (r : Bor (List ℕ)) → promises.extended s r → r.now ≡ extended_bytes x.value.extended
+unfolding extended_place extended_size
+extended-handed s n within x r part =
+    let last = extended_bytes x.value.extended in
+    let size : length (encode x.value) ≡ n = sym (ap length x.written) ∙ length-take-le n s.now within in
+    let split : encode x.value ++ drop n s.now ≡ s.now = rw x.written at (take-append-drop n s.now) in
+    rw (record-is-read s.now n within x, ← size) at part.bytes
+    ∙ ap (λ b. take (length last) (drop (length (encode x.value) - length last) b)) (sym split)
+    ∙ last-part (encode x.value) last (drop n s.now) (record-ends-in x.value)
 
 -- ---- The numbers of a point
 

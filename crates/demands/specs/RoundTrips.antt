@@ -30,8 +30,8 @@ use Rattle.record_writing.specs.declared.Written.TheVariants as written
 use Rattle.demands.specs.Promises as promises
 use Rattle.demands.specs.Saying.{numbers_of}
 use Rattle.demands.specs.JudgingLaws.{read-judged, whole-fits}
-use Rattle.demands.specs.Reading.{extended-told, rest-told, point-said, point-told, no-point-said, no-point-told}
-use Rattle.demands.specs.ReadingLaws.{numbers-at}
+use Rattle.demands.specs.Reading.{rest-told, point-said, point-told, no-point-said, no-point-told}
+use Rattle.demands.specs.ReadingLaws.{extended-handed, numbers-at}
 use Rattle.demands.specs.RoundTripLaws.{extended-given, meant, in_a_row}
 
 -- ---- Written, and read again
@@ -107,7 +107,7 @@ module _ (d : Description) (sixteen : length d.channels ≡ 16) (count : ℕ) (v
   -- extended hands out the extended data that were given where they were wanted, and no byte where they were not
   pub written-extended-told : (r : Bor (List ℕ)) → promises.extended s r → r.now ≡ cond wanted extended []
   unfolding record_in
-  written-extended-told r part = extended-told s n within the-record r part ∙ extended-given wanted extended
+  written-extended-told r part = extended-handed s n within the-record r part ∙ extended-given wanted extended
 
   -- rest hands out what the output held behind the record
   pub written-rest-told : (r : Bor (List ℕ)) → promises.rest s r → r.now ≡ drop n out
@@ -128,6 +128,6 @@ module _ (s : Bor (List ℕ)) (bytes : Bytes s.now)
   read-written out room answer after writes =
       let x = meant s.now bytes r judges n count wanted said in
       let row = ap (λ k. numbers_of points k 0) x.counted ∙ in_a_row s n x.within x.bytes points (λ i h. pointed i (omega (arith, x.counted, h))) in
-      let part = extended-told s n x.within x.bytes extended handed in
+      let part = extended-handed s n x.within x.bytes extended handed in
       let same = writes ∙ (λ i. write_of (x.described i) (x.counted i) (row i) (x.presence i) (part i) out) ∙ trips.read-written Point s.now bytes x.bytes.value n x.read out room in
       (ap (λ w. w.answer) same, ap (λ w. w.bytes) same)
