@@ -14,7 +14,7 @@ use Rattle.record_fronts.specs.Fronted.{front_in}
 use Rattle.record_layouts.specs.Layout.{layout_behind, layout_at}
 use Rattle.record_columns.proofs.Lying.{no_record, left_over, points-within, other-amount, columns-filled}
 use Rattle.record_columns.proofs.read_columns.Goals as goal
-use Rattle.record_columns.proofs.read_columns.Goals.{After-is_amount, After-layout_behind-layout, Else-end-bytes, Else-not-is_amount, Start}
+use Rattle.record_columns.proofs.read_columns.Goals.{After-is_amount, After-layout_behind-layout, Else-not-is_amount, Start}
 
 -- the front and the layout are those of the bytes
 module _ (b : After-layout_behind-layout) where
@@ -33,11 +33,8 @@ returns-then-end-bytes c = left_over _ _ (laid (goal.at.returns-then-end-bytes c
 
 -- the record is the whole slice, and the amount is asked for
 module _ (m : After-is_amount) where
-  abbrev whole : Else-end-bytes
-  whole = (goal.at.After-is_amount m).Else-end-bytes
-
   abbrev lies : After-layout_behind-layout
-  lies = (goal.at.Else-end-bytes whole).After-layout_behind-layout
+  lies = (goal.at.After-is_amount m).After-layout_behind-layout
 
   abbrev count : ℕ
   count = lies.layout_behind-layout.result.count
@@ -45,8 +42,8 @@ module _ (m : After-is_amount) where
   abbrev flags : List Bool
   flags = lies.front_at-heading.result.front.stored
 
-  all : length (start lies).args.bytes.now ≤ whole.in-Done.end
-  all = omega (arith, whole.if-end-bytes.false)
+  all : length (start lies).args.bytes.now ≤ m.in-Done.end
+  all = omega arith
 
   amount : eqb (length (start lies).args.values.now) (count * size flags) ≡ m.is_amount.result
   amount = rw (← m.size.ensures.0) (sym m.is_amount.ensures)
@@ -54,7 +51,7 @@ module _ (m : After-is_amount) where
 pub returns-then-not-is_amount : goal.returns-then-not-is_amount
 returns-then-not-is_amount c =
     let m = (goal.at.returns-then-not-is_amount c).After-is_amount in
-    other-amount _ _ (laid (lies m)) _ (whole m).in-Done.is _ (front (lies m)) (all m) (amount m ∙ c.if-not-is_amount.true)
+    other-amount _ _ (laid (lies m)) _ m.in-Done.is _ (front (lies m)) (all m) (amount m ∙ c.if-not-is_amount.true)
 
 -- it is right
 module _ (c : Else-not-is_amount) where
@@ -64,7 +61,7 @@ module _ (c : Else-not-is_amount) where
 pub fill-requires : goal.fill-requires
 fill-requires c =
     let m = (goal.at.fill-requires c).After-is_amount in
-    (points-within _ _ (laid (lies m)) (start (lies m)).args.values.now (whole m).in-Done.is _ (front (lies m)), eqb-true _ _ (right (goal.at.fill-requires c).Else-not-is_amount))
+    (points-within _ _ (laid (lies m)) (start (lies m)).args.values.now m.in-Done.is _ (front (lies m)), eqb-true _ _ (right (goal.at.fill-requires c).Else-not-is_amount))
 
 pub returns-in-Failed : goal.returns-in-Failed
 returns-in-Failed c =
@@ -75,4 +72,4 @@ pub returns-else-not-is_amount : goal.returns-else-not-is_amount
 returns-else-not-is_amount c =
     let e = (goal.at.returns-else-not-is_amount c).Else-not-is_amount in
     let m = (goal.at.returns-else-not-is_amount c).After-is_amount in
-    columns-filled _ _ (laid (lies m)) _ (whole m).in-Done.is _ (front (lies m)) (all m) (right e) _ c.fill.ensures
+    columns-filled _ _ (laid (lies m)) _ m.in-Done.is _ (front (lies m)) (all m) (right e) _ c.fill.ensures

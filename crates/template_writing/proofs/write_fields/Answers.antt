@@ -14,7 +14,7 @@ use Rattle.refusals.specs.Stages.{require}
 use Rattle.template_writing.specs.Writing.{put_where, exceeds, in_room, described_bytes, template_bytes, write_fields}
 use Rattle.template_writing.proofs.Laying.{template-length, put_first}
 use Rattle.template_writing.proofs.write_fields.Goals as goal
-use Rattle.template_writing.proofs.write_fields.Goals.{After-limited_size, After-put_template-end, Else-exceeds, Else-out-length, Start}
+use Rattle.template_writing.proofs.write_fields.Goals.{After-limited_size, After-put_template-end, Else-exceeds, Start}
 
 pub returns-then-exceeds : goal.returns-then-exceeds
 unfolding write_fields put_where require
@@ -35,9 +35,6 @@ module _ (m : After-limited_size) where
       let a = start.args in
       omega (arith, template-length a.described a.bytes.now a.limited a.maximum, m.described_size.ensures.0, m.limited_size.ensures.0)
 
-room : (c : Else-out-length) → length (whole (goal.at.Else-out-length c).After-limited_size) ≤ length (start (goal.at.Else-out-length c).After-limited_size).args.out.now
-room c = omega (arith, size (goal.at.Else-out-length c).After-limited_size)
-
 pub returns-then-out-length : goal.returns-then-out-length
 unfolding write_fields put_where in_room require
 returns-then-out-length c =
@@ -50,7 +47,7 @@ put_template-end-requires c =
     let a = (start m).args in (
       omega (arith, m.described_size.ensures.1, m.limited_size.ensures.1),
       (start m).requires,
-      record { enough = omega (arith, room (goal.at.put_template-end-requires c).Else-out-length) },
+      record { enough = omega (arith, size m) },
       omega (arith, m.described_size.ensures.0, m.limited_size.ensures.0, length-append (described_bytes a.described a.bytes.now) (encode_limited a.limited a.maximum)),
     )
 
@@ -58,8 +55,8 @@ pub returns : goal.returns
 unfolding write_fields put_where in_room require
 returns c =
     let p = (goal.at.returns c).After-put_template-end in
-    let e = (goal.at.After-put_template-end p).Else-out-length in
-    let m = (goal.at.Else-out-length e).After-limited_size in
+    let m = (goal.at.After-put_template-end p).After-limited_size in
     let out = (start m).args.out.now in
-    rw (small m, le-leb (length (whole m)) (length out) (room e))
-    (ap₂ (λ n t. writing (Done n) t) (p.put_template-end.ensures.place ∙ zero-add (length (whole m))) (p.put_template-end.ensures.bytes ∙ put_first out (whole m) (room e)))
+    let room : length (whole m) ≤ length out = omega (arith, size m) in
+    rw (small m, le-leb (length (whole m)) (length out) room)
+    (ap₂ (λ n t. writing (Done n) t) (p.put_template-end.ensures.place ∙ zero-add (length (whole m))) (p.put_template-end.ensures.bytes ∙ put_first out (whole m) room))
