@@ -1,7 +1,7 @@
 // Calls a function of the library or its twin on a prepared input, between two marks that bench/count.c looks for.
 //   driver compare            both sides answer alike on many inputs, or the first difference is told
 //   driver file SIZE          a file for the listing program, on standard output
-//   driver MARK SIDE ROW SIZE one call (or a loop of calls); MARK is `mark` or `plain`, for the emulator, SIDE is `rattle`, `twin` or `empty`
+//   driver mark SIDE ROW SIZE one call (or a loop of calls); SIDE is `rattle`, `twin` or `empty`
 // The functions of the side `empty` do nothing: what they take is the driver's own cost, which is taken off.
 #include "twin/calls.h"
 
@@ -128,26 +128,10 @@ static size_t put_record(uint8_t *at, uint32_t inclusion, uint32_t flags, bool s
 
 // ---- The rows
 
-static bool marking;
-
-// A function that only returns, at an address that the emulator's log is looked through for.
-static void (*beacon)(void);
-
-static void set_beacon(void)
-{
-    uint8_t *page = mmap((void *)0x10000000, 4096, 7, 0x32, -1, 0); // read, write and run; private, anonymous, there and nowhere else
-
-    *page = 0xC3;
-    beacon = (void (*)(void))page;
-}
-
-// The counter looks for the one int3 that is here, or for the beacon.
+// The counter looks for the one int3 that is here.
 __attribute__((noinline)) static void mark(void)
 {
-    if (marking)
-        __asm__ volatile("int3" ::: "memory");
-    else
-        beacon();
+    __asm__ volatile("int3" ::: "memory");
 }
 
 // The answer is in memory afterwards, and is not looked at.
@@ -193,7 +177,7 @@ static void walk(const struct side *side, size_t n, size_t records)
     mark();
 }
 
-static bool count_row(const struct side *side, const char *row, size_t size)
+__attribute__((noinline)) static bool count_row(const struct side *side, const char *row, size_t size)
 {
     size_t n;
 
@@ -569,13 +553,13 @@ int main(int amount, char **words)
         put_file(strtol(words[2], nullptr, 10));
         return 0;
     }
-    if (amount != 5) {
-        tell("usage: driver compare, driver file SIZE, or driver MARK SIDE ROW SIZE\n");
+    if (amount != 5 || !is(words[1], "mark")) {
+        tell("usage: driver compare, driver file SIZE, or driver mark SIDE ROW SIZE\n");
         return 2;
     }
-    marking = is(words[1], "mark");
-    if (!marking)
-        set_beacon();
+    // A row's stack begins at the same place of a page, however long the program's path is: memcpy and memset choose by the address.
+    char *gap = __builtin_alloca((size_t)__builtin_frame_address(0) & 4095);
+    __asm__ volatile("" ::"r"(gap));
     const struct side *side = is(words[2], "rattle") ? &rattle : is(words[2], "twin") ? &twin : &empty;
     if (!count_row(side, words[3], strtol(words[4], nullptr, 10))) {
         tell("driver: no such row\n");

@@ -2,144 +2,136 @@
 #![tactic(auto)]
 
 use channels::Place;
-use record_points::Pointed;
-use record_reading::Verdict;
-use refusals::{Quantity, Refusal, Where};
-use walks::Found;
+use record_reading::Extent;
+use refusals::{Quantity, Refusal};
+use texts::Text;
+use words::Reason;
 
-// Why a line cannot be read, beside the reasons of `words`, `sayings` and `fields`.
-pub const NO_SUCH_QUESTION: usize = 7;
-
-pub const TOO_LONG: usize = 8;
-
-// What refusal 12 or 21 names, if anything.
+// A word of an answer. `Nothing` is said of what a template does not have.
 #[derive(Clone, Copy)]
-pub enum Named {
+pub enum Word {
+    Record,
+    Refused,
+    Template,
+    Written,
+    Point,
+    End,
+    Absent,
+    Extended,
+    Plain,
     Nothing,
-    Number(Quantity),
+    Body,
+    Turned,
+}
+
+fn bytes_of(word: Word) -> &'static [u8] {
+    match word {
+        Word::Record => b"record",
+        Word::Refused => b"refused",
+        Word::Template => b"template",
+        Word::Written => b"written",
+        Word::Point => b"point",
+        Word::End => b"end",
+        Word::Absent => b"absent",
+        Word::Extended => b"extended",
+        Word::Plain => b"plain",
+        Word::Nothing => b"!",
+        Word::Body => b"body",
+        Word::Turned => b"turned",
+    }
+}
+
+// The numbers behind an answer's first word.
+#[derive(Clone, Copy)]
+enum Numbers {
+    None,
+    One(u64),
+    Two(u64, u64),
 }
 
 // How an answer begins: a word, up to two numbers, perhaps a last word, and perhaps the number that was out of its range.
 #[derive(Clone, Copy)]
 pub struct Answer {
-    word: usize,
-    count: usize,
-    first: u64,
-    second: u64,
-    last: usize,
-    named: Named,
+    word: Word,
+    numbers: Numbers,
+    last: Option<Word>,
+    named: Option<Quantity>,
 }
 
-const RECORD: usize = 0;
-
-const REFUSED: usize = 1;
-
-const TEMPLATE: usize = 2;
-
-pub const WRITTEN: usize = 3;
-
-pub const POINT: usize = 4;
-
-pub const END: usize = 5;
-
-pub const ABSENT: usize = 6;
-
-const EXTENDED: usize = 7;
-
-const PLAIN: usize = 8;
-
-pub const NONE: usize = 9;
-
-pub const BODY: usize = 10;
-
-const TURNED: usize = 11;
-
-const NO_WORD: usize = 12;
-
-// One of those words, or nothing.
-pub fn put_word(text: &mut [u8; 65536], used: u16, word: usize) -> u16 {
-    texts::put_bytes(
-        text,
-        used,
-        words::name(
-            b"record refused template written point end absent extended plain ! body turned",
-            b' ',
-            word,
-        ),
-    )
+pub fn put_word(text: &mut Text, word: Word) {
+    text.put_bytes(bytes_of(word));
 }
 
-fn put_number(text: &mut [u8; 65536], used: u16, there: bool, number: u64) -> u16 {
-    if there {
-        return texts::put_field(text, used, number);
-    }
-    used
-}
-
-pub fn put_last(text: &mut [u8; 65536], start: u16, word: usize) -> u16 {
-    if NO_WORD <= word {
-        return start;
-    }
-    let used = texts::put(text, start, b' ');
-    put_word(text, used, word)
-}
-
-pub fn put(text: &mut [u8; 65536], start: u16, answer: Answer) -> u16 {
-    let used = put_word(text, start, answer.word);
-    let used = put_number(text, used, 0 < answer.count, answer.first);
-    let used = put_number(text, used, 1 < answer.count, answer.second);
-    let used = put_last(text, used, answer.last);
-    let named = answer.named;
-    put_named(text, used, named)
-}
-
-fn put_named(text: &mut [u8; 65536], used: u16, named: Named) -> u16 {
-    match named {
-        Named::Nothing => used,
-        Named::Number(quantity) => quantities::put(text, used, quantity),
+fn put_numbers(text: &mut Text, numbers: Numbers) {
+    match numbers {
+        Numbers::None => (),
+        Numbers::One(number) => text.put_field(number),
+        Numbers::Two(first, second) => {
+            text.put_field(first);
+            text.put_field(second);
+        }
     }
 }
 
-// A word, and perhaps a number.
-pub fn plain(word: usize, count: usize, number: u64) -> Answer {
+// A word behind the numbers.
+pub fn put_last(text: &mut Text, word: Word) {
+    text.put(b' ');
+    put_word(text, word);
+}
+
+pub fn put(text: &mut Text, answer: Answer) {
+    put_word(text, answer.word);
+    put_numbers(text, answer.numbers);
+    if let Some(word) = answer.last {
+        put_last(text, word);
+    }
+    if let Some(quantity) = answer.named {
+        quantities::put(text, quantity);
+    }
+}
+
+// A word and numbers, with no more behind them.
+fn with_numbers(word: Word, numbers: Numbers) -> Answer {
     Answer {
         word: word,
-        count: count,
-        first: number,
-        second: 0,
-        last: NO_WORD,
-        named: Named::Nothing,
+        numbers: numbers,
+        last: None,
+        named: None,
     }
 }
 
-fn refused_at(number: u64, place: usize) -> Answer {
-    Answer {
-        word: REFUSED,
-        count: 2,
-        first: number,
-        second: place as u64,
-        last: NO_WORD,
-        named: Named::Nothing,
+// The words that the rooms of the questions begin an answer with.
+pub const WRITTEN: Word = Word::Written;
+
+pub const POINT: Word = Word::Point;
+
+pub const ABSENT: Word = Word::Absent;
+
+pub const BODY: Word = Word::Body;
+
+// A word, and perhaps a number: none where `count` is 0.
+pub fn plain(word: Word, count: usize, number: u64) -> Answer {
+    match count {
+        0 => with_numbers(word, Numbers::None),
+        _ => with_numbers(word, Numbers::One(number)),
     }
 }
 
-fn refused(number: u64, named: Named) -> Answer {
+fn refused(number: u64, named: Option<Quantity>) -> Answer {
     Answer {
-        word: REFUSED,
-        count: 1,
-        first: number,
-        second: 0,
-        last: NO_WORD,
+        word: Word::Refused,
+        numbers: Numbers::One(number),
+        last: None,
         named: named,
     }
 }
 
-// What a refusal names beside a place.
-fn named_by(refusal: Refusal) -> Named {
+// What refusal 12 or 21 names, if anything.
+fn named_by(refusal: Refusal) -> Option<Quantity> {
     match refusal {
-        Refusal::OutOfRange { quantity } => Named::Number(quantity),
-        Refusal::NotCompact { quantity } => Named::Number(quantity),
-        _ => Named::Nothing,
+        Refusal::OutOfRange { quantity } => Some(quantity),
+        Refusal::NotCompact { quantity } => Some(quantity),
+        _ => None,
     }
 }
 
@@ -148,118 +140,102 @@ pub fn of_refusal(refusal: Refusal) -> Answer {
     let number = refusals::number(refusal) as u64;
     let place = refusals::place(refusal);
     match place {
-        Where::At(byte) => refused_at(number, byte),
-        Where::Nowhere => refused(number, named_by(refusal)),
+        Some(byte) => with_numbers(Word::Refused, Numbers::Two(number, byte as u64)),
+        None => refused(number, named_by(refusal)),
     }
 }
 
 // A record, and whether extended data are present.
-fn of_record(length: usize, count: u32, extended: bool) -> Answer {
+fn of_record(extent: Extent) -> Answer {
+    let last = if extent.extended {
+        Word::Extended
+    } else {
+        Word::Plain
+    };
     Answer {
-        word: RECORD,
-        count: 2,
-        first: length as u64,
-        second: count as u64,
-        last: if extended { EXTENDED } else { PLAIN },
-        named: Named::Nothing,
+        word: Word::Record,
+        numbers: Numbers::Two(extent.length as u64, extent.count as u64),
+        last: Some(last),
+        named: None,
     }
 }
 
-pub fn of_verdict(verdict: Verdict) -> Answer {
+pub fn of_verdict(verdict: Result<Extent, Refusal>) -> Answer {
     match verdict {
-        Verdict::Record {
-            length,
-            count,
-            extended,
-        } => of_record(length, count, extended),
-        Verdict::Refused(refusal) => of_refusal(refusal),
+        Ok(extent) => of_record(extent),
+        Err(refusal) => of_refusal(refusal),
     }
 }
 
-pub fn of_pointed(pointed: Pointed) -> Answer {
+pub fn of_pointed(pointed: Result<(), Refusal>) -> Answer {
     match pointed {
-        Pointed::Point => plain(POINT, 0, 0),
-        Pointed::Refused(refusal) => of_refusal(refusal),
+        Ok(()) => with_numbers(Word::Point, Numbers::None),
+        Err(refusal) => of_refusal(refusal),
     }
 }
 
-pub fn of_found(found: Found) -> Answer {
+pub fn of_found(found: Option<Result<Extent, Refusal>>) -> Answer {
     match found {
-        Found::Record {
-            length,
-            count,
-            extended,
-        } => of_record(length, count, extended),
-        Found::End => plain(END, 0, 0),
-        Found::Refused(refusal) => of_refusal(refusal),
+        Some(verdict) => of_verdict(verdict),
+        None => with_numbers(Word::End, Numbers::None),
     }
 }
 
 // A template's maximum, or that it has none.
-pub fn of_maximum(limited: bool, maximum: u32) -> Answer {
-    Answer {
-        word: TEMPLATE,
-        count: limited as usize,
-        first: maximum as u64,
-        second: 0,
-        last: if limited { NO_WORD } else { NONE },
-        named: Named::Nothing,
+pub fn of_maximum(maximum: Option<u32>) -> Answer {
+    match maximum {
+        Some(most) => with_numbers(Word::Template, Numbers::One(most as u64)),
+        None => Answer {
+            word: Word::Template,
+            numbers: Numbers::None,
+            last: Some(Word::Nothing),
+            named: None,
+        },
     }
 }
 
 // The lengths of a template and of a body that a record was turned into.
 pub fn of_turned(template: usize, body: usize) -> Answer {
-    Answer {
-        word: TURNED,
-        count: 2,
-        first: template as u64,
-        second: body as u64,
-        last: NO_WORD,
-        named: Named::Nothing,
-    }
+    with_numbers(Word::Turned, Numbers::Two(template as u64, body as u64))
 }
 
 // All the bytes that were lent, behind a space.
-pub fn put_lent(text: &mut [u8; 65536], start: u16, lent: &[u8]) -> u16 {
-    let used = texts::put(text, start, b' ');
-    texts::put_hex(text, used, lent)
+pub fn put_lent(text: &mut Text, lent: &[u8]) {
+    text.put(b' ');
+    text.put_hex(lent);
 }
 
-fn put_one(text: &mut [u8; 65536], start: u16, place: Place) -> u16 {
-    let used = texts::put(text, start, b' ');
+fn put_one(text: &mut Text, place: Place) {
+    text.put(b' ');
     match place {
-        Place::Absent => texts::put(text, used, b'.'),
-        Place::Constant => texts::put(text, used, b'-'),
-        Place::Number(value) => texts::put_value(text, used, value),
+        Place::Absent => text.put(b'.'),
+        Place::Constant => text.put(b'-'),
+        Place::Number(value) => text.put_value(value),
     }
 }
 
 // The sixteen places of a point.
-pub fn put_places(text: &mut [u8; 65536], start: u16, places: [Place; 16]) -> u16 {
-    let mut used = start;
-    let mut channel: usize = 0;
-    while channel < 16 {
-        let place = places[channel];
-        used = put_one(text, used, place);
-        channel += 1;
+pub fn put_places(text: &mut Text, places: [Place; 16]) {
+    for place in places {
+        put_one(text, place);
     }
-    used
 }
 
-// A line that cannot be read, and why. The texts stand in the order of the reasons.
-pub fn cannot(text: &mut [u8; 65536], start: u16, reason: usize) -> u16 {
-    let used = texts::put_bytes(text, start, b"cannot read: ");
-    put_reason(text, used, reason)
+// A line that cannot be read, and why.
+pub fn cannot(text: &mut Text, reason: Reason) {
+    text.put_bytes(b"cannot read: ");
+    text.put_bytes(told(reason));
 }
 
-fn put_reason(text: &mut [u8; 65536], used: u16, reason: usize) -> u16 {
-    texts::put_bytes(
-        text,
-        used,
-        words::name(
-            b"nothing;a word is missing;not a number;not bytes;not a channel;not a place;a word too many;no such question;a line has at most 262144 bytes",
-            b';',
-            reason,
-        ),
-    )
+fn told(reason: Reason) -> &'static [u8] {
+    match reason {
+        Reason::Missing => b"a word is missing",
+        Reason::NotANumber => b"not a number",
+        Reason::NotBytes => b"not bytes",
+        Reason::NotAChannel => b"not a channel",
+        Reason::NotAPlace => b"not a place",
+        Reason::TooMany => b"a word too many",
+        Reason::NoSuchQuestion => b"no such question",
+        Reason::TooLong => b"a line has at most 262144 bytes",
+    }
 }

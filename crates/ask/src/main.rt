@@ -2,114 +2,89 @@
 #![tactic(auto)]
 
 use std::io::Read;
+use texts::Text;
+use words::Reason;
 
 // The longest line that is read.
 const LONGEST: usize = 262144;
 
-// A byte joins the line that is gathered, as long as there is room.
+// The line that has begun, and how many bytes of it are gathered.
 // One more than the longest is counted, so that it is seen where there are more.
-// Tabs and carriage returns stand for spaces.
-fn join(line: &mut [u8; 262144], gathered: usize, byte: u8) -> usize {
-    if LONGEST < gathered {
-        return gathered;
+#[derive(Drop)]
+struct Line {
+    bytes: [u8; 262144],
+    gathered: usize,
+}
+
+impl Line {
+    // A byte joins the line, as long as there is room. Tabs and carriage returns stand for spaces.
+    fn join(&mut self, byte: u8) {
+        if LONGEST < self.gathered {
+            return;
+        }
+        if self.gathered < LONGEST {
+            self.bytes[self.gathered] = if byte == b'\t' || byte == b'\r' {
+                b' '
+            } else {
+                byte
+            };
+        }
+        self.gathered += 1;
     }
-    if gathered < LONGEST {
-        line[gathered] = if byte == b'\t' || byte == b'\r' {
-            b' '
-        } else {
-            byte
-        };
-    }
-    gathered + 1
 }
 
 // The answer to a line, with its line feed.
-fn answer(text: &mut [u8; 65536], start: u16, line: &[u8; 262144], gathered: usize) -> u16 {
-    let bytes: &[u8] = line;
-    let mut used = start;
-    if LONGEST < gathered {
-        used = answers::cannot(text, used, answers::TOO_LONG);
+fn answer(text: &mut Text, line: &Line) {
+    if LONGEST < line.gathered {
+        answers::cannot(text, Reason::TooLong);
     } else {
-        used = questions::answer(text, used, &bytes[0..gathered]);
+        questions::answer(text, &line.bytes[0..line.gathered]);
     }
-    texts::put(text, used, b'\n')
+    text.put(b'\n');
 }
 
-// The bytes that came: each line that ends in them is answered. Tells how much is gathered of the line that has begun.
-fn take(text: &mut [u8; 65536], line: &mut [u8; 262144], start: usize, bytes: &[u8]) -> usize {
-    let mut used: u16 = 0;
-    let mut gathered = start;
-    let mut i: usize = 0;
-    while i < bytes.len() {
-        let byte = bytes[i];
+// The bytes that came: each line that ends in them is answered.
+fn take(text: &mut Text, line: &mut Line, bytes: &[u8]) {
+    for &byte in bytes {
         if byte == b'\n' {
-            used = answer(text, used, line, gathered);
-            gathered = 0;
+            answer(text, line);
+            line.gathered = 0;
         } else {
-            gathered = join(line, gathered, byte);
+            line.join(byte);
         }
-        i += 1;
     }
-    texts::write_out(text, used);
-    gathered
+    text.write_out();
 }
 
-// What one read brought: whether more can come, whether it failed, and how much is gathered of a line.
-#[derive(Clone, Copy)]
-struct Turn {
-    more: bool,
-    failed: bool,
-    gathered: usize,
-}
-
-// Reads once, and takes what came.
-fn take_some<R: Read>(
-    input: &mut R,
-    text: &mut [u8; 65536],
-    line: &mut [u8; 262144],
-    gathered: usize,
-) -> Turn {
+// Reads once, and takes what came. Tells how many bytes came: none at the end of the input.
+fn take_some<R: Read>(input: &mut R, text: &mut Text, line: &mut Line) -> std::io::Result<usize> {
     let mut bytes = [0; 65536];
-    match input.read(&mut bytes) {
-        Ok(n) => Turn {
-            more: 0 < n,
-            failed: false,
-            gathered: take(text, line, gathered, &bytes[0..n]),
-        },
-        Err(_) => Turn {
-            more: false,
-            failed: true,
-            gathered: gathered,
-        },
-    }
-}
-
-fn tell_unreadable() {
-    io::write_all(1, b"unreadable\n");
+    let came = input.read(&mut bytes)?;
+    take(text, line, &bytes[0..came]);
+    Ok(came)
 }
 
 // A proved loop has to end, and nothing says that the input does: its turns are counted, up to a number that no run comes to.
 // A read that fails is not the end of the input: what is gathered then may be a part of a line, and is not answered.
 fn main(rt: HostRuntime) {
     let mut input = rt.stdin();
-    let mut text = [0; 65536];
-    let mut line = [0; 262144];
-    let mut gathered: usize = 0;
-    let mut turns: u64 = 0;
-    while turns < 18446744073709551615 {
-        let turn = take_some(&mut input, &mut text, &mut line, gathered);
-        if turn.failed {
-            tell_unreadable();
-            return;
+    let mut text = Text::new();
+    let mut line = Line {
+        bytes: [0; 262144],
+        gathered: 0,
+    };
+    for _ in 0..u64::MAX {
+        match take_some(&mut input, &mut text, &mut line) {
+            Ok(0) => break,
+            Ok(_) => (),
+            Err(_) => {
+                io::write_all(1, b"unreadable\n");
+                return;
+            }
         }
-        gathered = turn.gathered;
-        if !turn.more {
-            break;
-        }
-        turns += 1;
     }
-    if 0 < gathered {
-        let used = answer(&mut text, 0, &line, gathered);
-        texts::write_out(&text, used);
+    if 0 < line.gathered {
+        answer(&mut text, &line);
+        text.write_out();
     }
 }

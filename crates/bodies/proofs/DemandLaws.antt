@@ -1,5 +1,5 @@
 -- The claims of `Demands` hold: by what reading as many points as the bytes begin answers, and by the stages that writing has passed.
-use Rattle.std.specs.Prelude.{◌≡◌, Bool, ◌≢◌, ℕ, zero, suc, ◌+◌, ◌*◌, ◌≤◌, ◌<◌, leb, ℤ, take}
+use Rattle.std.specs.Prelude.{◌≡◌, Bool, ◌≢◌, ℕ, zero, suc, ◌+◌, ◌*◌, ◌≤◌, ◌<◌, leb, ℤ, take, Result, Ok, Err, ⊤}
 use Rattle.std.proofs.Math.Path.{refl, sym, ap}
 use Rattle.std.proofs.Common.{ap₂, ◌∙◌, length-append, take_at, drop_at}
 use Rattle.std.proofs.Math.Bool.{true, false, cond}
@@ -16,8 +16,6 @@ use Rattle.formats.specs.Put.{puts, puts-is}
 use Rattle.formats.specs.Lent.{Writing, writing}
 use Rattle.refusals.specs.Table.{named, refusal_of}
 use Rattle.refusals.specs.declared.Refusal.TheVariants.{Short, LeftOver, Switch, Maximum, Room}
-use Rattle.refusals.specs.declared.Judgement.{Judgement}
-use Rattle.refusals.specs.declared.Judgement.TheVariants as judgement
 use Rattle.channels.specs.Descriptors.{stored}
 use Rattle.channels.specs.declared.Description.{Description}
 use Rattle.points.specs.Points.{point, width}
@@ -35,34 +33,32 @@ use Rattle.bodies.specs.Reading.{ruled, exceeds, verdict_by, read, verdict_of, d
 use Rattle.bodies.specs.Writing.{judgement_by, put_where, write_ruled, write_if, write_by}
 use Rattle.bodies.proofs.WritingLaws.{count_fits_lem, Passes, passes, passing, passes-valid}
 use Rattle.bodies.specs.Demands.{said, description_of, flags, points_read, ReadsBack, WritesAgain, Bodied, JudgesBodies, EndsInside, JudgesShort, JudgesLeftOver}
-use Rattle.bodies.specs.declared.Verdict.{Verdict}
-use Rattle.bodies.specs.declared.Verdict.TheVariants as verdict
-use Rattle.bodies.specs.declared.Written.{Written}
-use Rattle.bodies.specs.declared.Written.TheVariants as written
+use Rattle.bodies.specs.declared.Refused.TheVariants as whose
+use Rattle.bodies.specs.declared.Refused.{Refused}
+use Rattle.refusals.specs.declared.Refusal.{Refusal}
 
 -- ---- Where the template is no reason to refuse, the body's verdict is said
 
-pub said_of : (d : Description) (v : Verdict) → (described d v).verdict ≡ v
-said_of d (verdict.Body count) = refl
-said_of d (verdict.TemplateRefused refusal) = refl
-said_of d (verdict.Refused refusal) = refl
+pub said_of : (d : Description) (v : Result ℕ Refused) → (described d v).verdict ≡ v
+said_of d (Ok count) = refl
+said_of d (Err refused) = refl
 
 module _ (j : templates.Judged) (b : List ℕ) where
-  judged-by : ruled j ≡ judgement.Passed → judged_by j b ≡ described j.template.description (verdict_of j.template b)
+  judged-by : ruled j ≡ Ok tt → judged_by j b ≡ described j.template.description (verdict_of j.template b)
   unfolding judged_by
   judged-by e = rw e
 
-  verdict-is : ruled j ≡ judgement.Passed → (judged_by j b).verdict ≡ verdict_of j.template b
+  verdict-is : ruled j ≡ Ok tt → (judged_by j b).verdict ≡ verdict_of j.template b
   verdict-is e = ap (λ x. x.verdict) (judged-by e) ∙ said_of j.template.description (verdict_of j.template b)
 
   -- and where there is a body it is none
-  body-ruled : {count : ℕ} → (judged_by j b).verdict ≡ verdict.Body count → ruled j ≡ judgement.Passed
+  body-ruled : {count : ℕ} → (judged_by j b).verdict ≡ Ok count → ruled j ≡ Ok tt
   unfolding judged_by
   body-ruled {count} e = go (ruled j) e
     where
-      go : (x : Judgement) → (judged_if x j.template b).verdict ≡ verdict.Body count → x ≡ judgement.Passed
-      go judgement.Passed q = refl
-      go (judgement.Refused refusal) q = impossible (cc)
+      go : (x : Result ⊤ Refusal) → (judged_if x j.template b).verdict ≡ Ok count → x ≡ Ok tt
+      go (Ok _) q = refl
+      go (Err refusal) q = impossible (cc)
 
 -- ---- By what reading answers
 
@@ -77,16 +73,16 @@ module _ (t : Template) (b : List ℕ) where
     many : length points ≡ count
     allowed : exceeds t.limited t.maximum count ≡ false
 
-  whole-verdict : {count : ℕ} → Whole count → verdict_of t b ≡ verdict.Body count
+  whole-verdict : {count : ℕ} → Whole count → verdict_of t b ≡ Ok count
   unfolding verdict_by
   whole-verdict x = rw (x.taken, le-ltb (length b) (length b) (omega arith), x.many, x.allowed)
 
-  verdict-whole : {count : ℕ} → verdict_of t b ≡ verdict.Body count → Whole count
+  verdict-whole : {count : ℕ} → verdict_of t b ≡ Ok count → Whole count
   unfolding verdict_by
   verdict-whole {count} e = go (read t b) refl e
     where
       by : (points : List (List ℤ)) (n : ℕ) → read t b ≡ ok points n → (left more : Bool) → ltb n (length b) ≡ left → exceeds t.limited t.maximum (length points) ≡ more
-          → cond left (verdict.Refused (LeftOver n)) (cond more (verdict.Refused Maximum) (verdict.Body (length points))) ≡ verdict.Body count → Whole count
+          → cond left (Err (whose.Body (LeftOver n))) (cond more (Err (whose.Body Maximum)) (Ok (length points))) ≡ Ok count → Whole count
       by points n r true more h g q = impossible (cc)
       by points n r false true h g q = impossible (cc)
       by points n r false false h g q =
@@ -94,31 +90,31 @@ module _ (t : Template) (b : List ℕ) where
           let m : n ≡ length b = omega (arith, ltb-false n (length b) h, read-within channels b r) in
           record { points = points; taken = r ∙ ap (ok points) m; many = z; allowed = rw z at g }
 
-      go : (a : Answer (List (List ℤ))) → read t b ≡ a → verdict_by t.limited t.maximum (length b) a ≡ verdict.Body count → Whole count
+      go : (a : Answer (List (List ℤ))) → read t b ≡ a → verdict_by t.limited t.maximum (length b) a ≡ Ok count → Whole count
       go (ok points n) r q = by points n r (ltb n (length b)) (exceeds t.limited t.maximum (length points)) refl refl q
       go short r q = impossible (cc)
       go (bad k p) r q = impossible (cc)
 
   -- a byte that is refused is a switch
-  bad-verdict : (k p : ℕ) → Bytes b → read t b ≡ bad k p → verdict_by t.limited t.maximum (length b) (bad k p) ≡ verdict.Refused (Switch p)
+  bad-verdict : (k p : ℕ) → Bytes b → read t b ≡ bad k p → verdict_by t.limited t.maximum (length b) (bad k p) ≡ (Err (whose.Body (Switch p)))
   unfolding verdict_by refusal_of named
   bad-verdict k p bytes e = rw (switch-refused channels b bytes e)
 
-  verdict-short : Bytes b → verdict_of t b ≡ verdict.Refused Short → read t b ≡ short
+  verdict-short : Bytes b → verdict_of t b ≡ (Err (whose.Body Short)) → read t b ≡ short
   unfolding verdict_by
   verdict-short bytes e = go (read t b) refl e
     where
-      by : (points : List (List ℤ)) (n : ℕ) (left more : Bool) → cond left (verdict.Refused (LeftOver n)) (cond more (verdict.Refused Maximum) (verdict.Body (length points))) ≡ verdict.Refused Short → ok points n ≡ short
+      by : (points : List (List ℤ)) (n : ℕ) (left more : Bool) → cond left (Err (whose.Body (LeftOver n))) (cond more (Err (whose.Body Maximum)) (Ok (length points))) ≡ (Err (whose.Body Short)) → ok points n ≡ short
       by points n true more q = impossible (cc)
       by points n false true q = impossible (cc)
       by points n false false q = impossible (cc)
 
-      go : (a : Answer (List (List ℤ))) → read t b ≡ a → verdict_by t.limited t.maximum (length b) a ≡ verdict.Refused Short → a ≡ short
+      go : (a : Answer (List (List ℤ))) → read t b ≡ a → verdict_by t.limited t.maximum (length b) a ≡ (Err (whose.Body Short)) → a ≡ short
       go (ok points n) r q = by points n (ltb n (length b)) (exceeds t.limited t.maximum (length points)) q
       go short r q = refl
       go (bad k p) r q = impossible (cc (bad-verdict k p bytes r))
 
-  short-verdict : read t b ≡ short → verdict_of t b ≡ verdict.Refused Short
+  short-verdict : read t b ≡ short → verdict_of t b ≡ (Err (whose.Body Short))
   unfolding verdict_by refusal_of
   short-verdict e = rw e
 
@@ -126,12 +122,12 @@ module _ (t : Template) (b : List ℕ) where
   abbrev Left : ℕ → Type 0
   Left place = (width 1 channels ≡ 0) × ((0 < length b) × (place ≡ 0))
 
-  verdict-left : {place : ℕ} → Bytes b → verdict_of t b ≡ verdict.Refused (LeftOver place) → Left place
+  verdict-left : {place : ℕ} → Bytes b → verdict_of t b ≡ (Err (whose.Body (LeftOver place))) → Left place
   unfolding verdict_by refusal_of
   verdict-left {place} bytes e = go (read t b) refl e
     where
       by : (points : List (List ℤ)) (n : ℕ) → read t b ≡ ok points n → (left more : Bool) → ltb n (length b) ≡ left
-          → cond left (verdict.Refused (LeftOver n)) (cond more (verdict.Refused Maximum) (verdict.Body (length points))) ≡ verdict.Refused (LeftOver place) → Left place
+          → cond left (Err (whose.Body (LeftOver n))) (cond more (Err (whose.Body Maximum)) (Ok (length points))) ≡ (Err (whose.Body (LeftOver place))) → Left place
       by points n r true more h q =
           let z : n ≡ place = cc in
           let g = ltb-true n (length b) h in
@@ -140,12 +136,12 @@ module _ (t : Template) (b : List ℕ) where
       by points n r false true h q = impossible (cc)
       by points n r false false h q = impossible (cc)
 
-      go : (a : Answer (List (List ℤ))) → read t b ≡ a → verdict_by t.limited t.maximum (length b) a ≡ verdict.Refused (LeftOver place) → Left place
+      go : (a : Answer (List (List ℤ))) → read t b ≡ a → verdict_by t.limited t.maximum (length b) a ≡ (Err (whose.Body (LeftOver place))) → Left place
       go (ok points n) r q = by points n r (ltb n (length b)) (exceeds t.limited t.maximum (length points)) refl q
       go short r q = impossible (cc)
       go (bad k p) r q = impossible (cc (bad-verdict k p bytes r))
 
-  left-verdict : {place : ℕ} → Left place → verdict_of t b ≡ verdict.Refused (LeftOver place)
+  left-verdict : {place : ℕ} → Left place → verdict_of t b ≡ (Err (whose.Body (LeftOver place)))
   unfolding verdict_by
   left-verdict x = rw (none_read channels b x.0, lt-ltb 0 (length b) x.1.0, x.1.1)
 
@@ -202,13 +198,13 @@ module _ (flags : List Bool) (b : List ℕ) where
 pub judges-bodies : JudgesBodies
 judges-bodies t b bytes r count = (to, from)
   where
-    to : (judged_by (template_of t) b).verdict ≡ verdict.Body count → Bodied t b count
+    to : (judged_by (template_of t) b).verdict ≡ Ok count → Bodied t b count
     to e =
         let x = verdict-whole (said t) b (sym (verdict-is (template_of t) b r) ∙ e) in
         let o = read-body (flags t) b bytes x.taken in
         record { body = record { value = x.points; valid = o.0; written = o.1 }; many = x.many; allowed = x.allowed }
 
-    from : Bodied t b count → (judged_by (template_of t) b).verdict ≡ verdict.Body count
+    from : Bodied t b count → (judged_by (template_of t) b).verdict ≡ Ok count
     from x =
         let o : read (said t) b ≡ ok x.body.value (length b) = rw x.body.written (body-read (flags t) x.body.value x.body.valid) in
         verdict-is (template_of t) b r ∙ whole-verdict (said t) b (record { points = x.body.value; taken = o; many = x.many; allowed = x.allowed })
@@ -242,7 +238,7 @@ module _ (flags : List Bool) (limited : Bool) (maximum count : ℕ) (numbers : L
 
   module _ (out : List ℕ) {n : ℕ} {after : List ℕ} where
     by-room : Passes flags limited maximum count numbers → (t : Bool) → leb (length bytes) (length out) ≡ t
-        → writing (written.Body n) after ≡ cond t (writing (written.Body (length bytes)) (puts out 0 bytes)) (writing (written.Refused Room) out) → Wrote out n after
+        → writing (Ok n) after ≡ cond t (writing (Ok (length bytes)) (puts out 0 bytes)) (writing (Err (whose.Body Room)) out) → Wrote out n after
     by-room p true h e =
         let q = ap (λ x. x.answer) e in
         let z : n ≡ length bytes = cc in
@@ -254,32 +250,32 @@ module _ (flags : List Bool) (limited : Bool) (maximum count : ℕ) (numbers : L
         }
     by-room p false h e = impossible (cc (ap (λ x. x.answer) e))
 
-    wrote : (wanted : Bool) → writing (written.Body n) after ≡ write_ruled flags limited maximum count numbers wanted out → Wrote out n after
+    wrote : (wanted : Bool) → writing (Ok n) after ≡ write_ruled flags limited maximum count numbers wanted out → Wrote out n after
     unfolding write_ruled put_where
     wrote wanted e = go (judgement_by flags limited maximum count numbers wanted) refl e
       where
-        go : (x : Judgement) → judgement_by flags limited maximum count numbers wanted ≡ x → writing (written.Body n) after ≡ put_where bytes out x → Wrote out n after
-        go judgement.Passed h q = by-room (passes flags limited maximum count numbers wanted h) (leb (length bytes) (length out)) refl q
-        go (judgement.Refused refusal) h q = impossible (cc (ap (λ x. x.answer) q))
+        go : (x : Result ⊤ Refusal) → judgement_by flags limited maximum count numbers wanted ≡ x → writing (Ok n) after ≡ put_where bytes out x → Wrote out n after
+        go (Ok _) h q = by-room (passes flags limited maximum count numbers wanted h) (leb (length bytes) (length out)) refl q
+        go (Err refusal) h q = impossible (cc (ap (λ x. x.answer) q))
 
 -- ---- Written, and read again
 
 -- the template was no reason to refuse
 module _ (j : templates.Judged) (count : ℕ) (numbers : List ℤ) (wanted : Bool) (out : List ℕ) where
-  abbrev ruledly : Writing Written
+  abbrev ruledly : Writing (Result ℕ Refused)
   ruledly = write_ruled (stored j.template.description) j.template.limited j.template.maximum count numbers wanted out
 
-  write-ruled : ruled j ≡ judgement.Passed → write_by j count numbers wanted out ≡ ruledly
+  write-ruled : ruled j ≡ Ok tt → write_by j count numbers wanted out ≡ ruledly
   unfolding write_by
   write-ruled e = rw e
 
-  body-written : {n : ℕ} {after : List ℕ} → writing (written.Body n) after ≡ write_by j count numbers wanted out → ruled j ≡ judgement.Passed
+  body-written : {n : ℕ} {after : List ℕ} → writing (Ok n) after ≡ write_by j count numbers wanted out → ruled j ≡ Ok tt
   unfolding write_by
   body-written {n} {after} e = go (ruled j) e
     where
-      go : (x : Judgement) → writing (written.Body n) after ≡ write_if x j.template count numbers wanted out → x ≡ judgement.Passed
-      go judgement.Passed q = refl
-      go (judgement.Refused refusal) q = impossible (cc (ap (λ x. x.answer) q))
+      go : (x : Result ⊤ Refusal) → writing (Ok n) after ≡ write_if x j.template count numbers wanted out → x ≡ Ok tt
+      go (Ok _) q = refl
+      go (Err refusal) q = impossible (cc (ap (λ x. x.answer) q))
 
 pub reads-back : ReadsBack
 reads-back t count numbers wanted out n after e =
@@ -315,13 +311,13 @@ module _ (flags : List Bool) (limited : Bool) (maximum : ℕ) (points : List (Li
   }
 
   written-again : Passes flags limited maximum (length points) laid → (out : List ℕ) → length body ≤ length out
-      → writing (written.Body (length body)) (body ++ drop (length body) out) ≡ write_ruled flags limited maximum (length points) laid false out
+      → writing (Ok (length body)) (body ++ drop (length body) out) ≡ write_ruled flags limited maximum (length points) laid false out
   unfolding write_ruled put_where
   written-again passed out room =
       let same = points-again (size flags) points (valid-sizes 1 flags points valid.each) Point in
       let place : length body ≡ 0 + length body = omega arith in
       rw (passing flags limited maximum (length points) laid passed, same, le-leb (length body) (length out) room)
-      (ap (writing (written.Body (length body))) (ap (λ k. body ++ drop k out) place ∙ sym (puts-is out 0 body (omega arith))))
+      (ap (writing (Ok (length body))) (ap (λ k. body ++ drop k out) place ∙ sym (puts-is out 0 body (omega arith))))
 
 pub writes_again : WritesAgain
 writes_again t b bytes count e small out room =
@@ -332,7 +328,7 @@ writes_again t b bytes count e small out room =
     let z = x.many in
     let points = x.points in
     let passed = passes-again (flags t) (said t).limited (said t).maximum points o.0 (omega arith) (rw (← z) at x.allowed) in
-    ap (λ l. writing (written.Body (length l)) (l ++ drop (length l) out)) o.1
+    ap (λ l. writing (Ok (length l)) (l ++ drop (length l) out)) o.1
     ∙ written-again (flags t) (said t).limited (said t).maximum points o.0 passed out (rw o.1 at room)
     ∙ sym (write-ruled j (length points) (values_of Point (size (flags t)) points) false out ruling)
     ∙ ap₂ (λ n a. write_by j n (values_of Point (size (flags t)) (points_read a)) false out) z (sym x.taken)

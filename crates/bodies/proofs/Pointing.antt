@@ -1,4 +1,5 @@
 -- What is said of a point of a body: where there is one its bytes stand at an even distance from the start, and where there is none it is read as one of no channel.
+use Rattle.std.specs.Prelude.{Result, Ok, Err, ⊤}
 use mathlib.Core.Path.{◌≡◌, refl, sym, ap, ◌∙◌}
 use mathlib.Core.Bool.{Bool, true, false, cond}
 use mathlib.Core.List.{List}
@@ -16,8 +17,6 @@ use Rattle.formats.proofs.Ends.{at-within}
 use Rattle.formats.specs.Fixed.{times-length}
 use Rattle.formats.proofs.FixedLaws.{fixed-times}
 use Rattle.refusals.specs.declared.Refusal.TheVariants.{LeftOver, NoPoint, Maximum}
-use Rattle.refusals.specs.declared.Judgement.{Judgement}
-use Rattle.refusals.specs.declared.Judgement.TheVariants as judgement
 use Rattle.channels.specs.Descriptors.{included, stored}
 use Rattle.points.specs.Points.{point, width}
 use Rattle.points.specs.Laws.{fixed-point, nth-point}
@@ -29,11 +28,10 @@ use Rattle.templates.specs.declared.Judged as templates
 use Rattle.bodies.specs.Body.{begun, points_in}
 use Rattle.bodies.specs.Reading.{ruled, rule_of, exceeds, verdict_by, verdict_of, judged_if, judged_by, read, pointed_at, pointed_by, places_if, places_by}
 use Rattle.bodies.specs.declared.Rule.{Rule}
-use Rattle.bodies.specs.declared.Verdict.{Verdict}
-use Rattle.bodies.specs.declared.Verdict.TheVariants as verdict
-use Rattle.bodies.specs.declared.Pointed.{Pointed}
-use Rattle.bodies.specs.declared.Pointed.TheVariants as pointed
 use Rattle.bodies.proofs.DemandLaws.{said_of}
+use Rattle.bodies.specs.declared.Refused.TheVariants as whose
+use Rattle.bodies.specs.declared.Refused.{Refused}
+use Rattle.refusals.specs.declared.Refusal.{Refusal}
 
 -- a verdict that is a body tells what was read
 record Read (x : Answer (List (List ℤ))) (count : ℕ) : Type 0 where
@@ -42,11 +40,11 @@ record Read (x : Answer (List (List ℤ))) (count : ℕ) : Type 0 where
   read : x ≡ ok points end
   many : length points ≡ count
 
-body-read : (limited : Bool) (maximum size : ℕ) (x : Answer (List (List ℤ))) {count : ℕ} → verdict_by limited maximum size x ≡ verdict.Body count → Read x count
+body-read : (limited : Bool) (maximum size : ℕ) (x : Answer (List (List ℤ))) {count : ℕ} → verdict_by limited maximum size x ≡ Ok count → Read x count
 unfolding verdict_by
 body-read limited maximum size (ok points n) {count} e = go (ltb n size) (exceeds limited maximum (length points)) e
   where
-    go : (t u : Bool) → cond t (verdict.Refused (LeftOver n)) (cond u (verdict.Refused Maximum) (verdict.Body (length points))) ≡ verdict.Body count → Read (ok points n) count
+    go : (t u : Bool) → cond t (Err (whose.Body (LeftOver n))) (cond u (Err (whose.Body Maximum)) (Ok (length points))) ≡ Ok count → Read (ok points n) count
     go true u e = impossible (cc)
     go false true e = impossible (cc)
     go false false e = record { points = points; end = n; read = refl; many = cc }
@@ -60,26 +58,24 @@ record Pointing (x : Answer (List (List ℤ))) (index : ℕ) : Type 0 where
   read : x ≡ ok points end
   there : index < length points
 
-point-read : (limited : Bool) (maximum size : ℕ) (x : Answer (List (List ℤ))) (index : ℕ) (v : Verdict) → verdict_by limited maximum size x ≡ v → pointed_at index v ≡ pointed.Point
+point-read : (limited : Bool) (maximum size : ℕ) (x : Answer (List (List ℤ))) (index : ℕ) (v : Result ℕ Refused) → verdict_by limited maximum size x ≡ v → pointed_at index v ≡ Ok tt
     → Pointing x index
-point-read limited maximum size x index (verdict.Body count) e q = go (ltb index count) refl q
+point-read limited maximum size x index (Ok count) e q = go (ltb index count) refl q
   where
-    go : (t : Bool) → ltb index count ≡ t → cond t pointed.Point (pointed.Refused NoPoint) ≡ pointed.Point → Pointing x index
+    go : (t : Bool) → ltb index count ≡ t → ◌≡◌ {A = Result ⊤ Refused} (cond t (Ok tt) (Err (whose.Body NoPoint))) (Ok tt) → Pointing x index
     go true h q = let r = body-read limited maximum size x e in record { points = r.points; end = r.end; read = r.read; there = omega (arith, ltb-true index count h, r.many) }
     go false h q = impossible (cc)
-point-read limited maximum size x index (verdict.TemplateRefused refusal) e q = impossible (cc)
-point-read limited maximum size x index (verdict.Refused refusal) e q = impossible (cc)
+point-read limited maximum size x index (Err refused) e q = impossible (cc)
 
-ruled-point : (x : Judgement) (t : Template) (b : List ℕ) (index : ℕ) → pointed_at index (judged_if x t b).verdict ≡ pointed.Point → Pointing (read t b) index
-ruled-point judgement.Passed t b index e =
+ruled-point : (x : Result ⊤ Refusal) (t : Template) (b : List ℕ) (index : ℕ) → pointed_at index (judged_if x t b).verdict ≡ Ok tt → Pointing (read t b) index
+ruled-point (Ok _) t b index e =
     let v = verdict_of t b in
     point-read _ _ _ (read t b) index v refl (ap (pointed_at index) (sym (said_of t.description v)) ∙ e)
-ruled-point (judgement.Refused refusal) t b index e = impossible (cc)
+ruled-point (Err refusal) t b index e = impossible (cc)
 
-no-places : (p : Pointed) → (p ≡ pointed.Point → ⊥) → (index : ℕ) (t : Template) (b : List ℕ) → nowhere ≡ places_if p index t b
-no-places pointed.Point h index t b = absurd (h refl)
-no-places (pointed.TemplateRefused refusal) h index t b = refl
-no-places (pointed.Refused refusal) h index t b = refl
+no-places : (p : Result ⊤ Refused) → (p ≡ Ok tt → ⊥) → (index : ℕ) (t : Template) (b : List ℕ) → nowhere ≡ places_if p index t b
+no-places (Ok _) h index t b = absurd (h refl)
+no-places (Err refused) h index t b = refl
 
 module _ (index : ℕ) (j : templates.Judged) (b : List ℕ) where
   -- a point is read by some flags, from a place on
@@ -87,11 +83,11 @@ module _ (index : ℕ) (j : templates.Judged) (b : List ℕ) where
   Shown included stored start = places.places_in included stored (read_at (point 1 stored) b start) ≡ places_by index j b
 
   -- no point is read as one of no channel
-  pub shown-none : {p : Pointed} → p ≡ pointed_by index j b → (p ≡ pointed.Point → ⊥) → Shown (replicate 16 false) (replicate 16 false) 0
+  pub shown-none : {p : Result ⊤ Refused} → p ≡ pointed_by index j b → (p ≡ Ok tt → ⊥) → Shown (replicate 16 false) (replicate 16 false) 0
   unfolding places_by
   shown-none {p} e h = read-nowhere 1 b 0 ∙ no-places p h index j.template b ∙ ap (λ p. places_if p index j.template b) e
 
-  module _ (e : pointed_by index j b ≡ pointed.Point) where
+  module _ (e : pointed_by index j b ≡ Ok tt) where
     abbrev flags : List Bool
     flags = stored j.template.description
 

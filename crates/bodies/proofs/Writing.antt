@@ -1,4 +1,5 @@
 -- What is said of a body that is to be written, by its template's rule.
+use Rattle.std.specs.Prelude.{Result, Err, Ok}
 use mathlib.Core.Path.{◌≡◌, sym, ap, ◌∙◌}
 use mathlib.Core.Bool.{Bool}
 use mathlib.Core.List.{List}
@@ -6,20 +7,19 @@ use Prim.Native.Nat.{ℕ}
 use lib.IntN.{ℤ}
 use Rattle.formats.specs.Lent.{Writing, writing}
 use Rattle.refusals.specs.declared.Refusal.{Refusal}
-use Rattle.refusals.specs.declared.Judgement.TheVariants as judgement
 use Rattle.templates.specs.declared.Judged as templates
 use Rattle.bodies.specs.Reading.{rule_of}
 use Rattle.bodies.specs.Writing.{write_ruled, write_by}
 use Rattle.bodies.specs.declared.Rule.{Rule}
-use Rattle.bodies.specs.declared.Written.{Written}
-use Rattle.bodies.specs.declared.Written.TheVariants as written
+use Rattle.bodies.specs.declared.Refused.TheVariants as whose
+use Rattle.bodies.specs.declared.Refused.{Refused}
 
 module _ (j : templates.Judged) (rule : Rule) (e : rule ≡ rule_of j) (count : ℕ) (numbers : List ℤ) (wanted : Bool) (out : List ℕ) where
-  pub write-refused : {refusal : Refusal} → rule.judgement ≡ judgement.Refused refusal → writing (written.TemplateRefused refusal) out ≡ write_by j count numbers wanted out
+  pub write-refused : {refusal : Refusal} → rule.judgement ≡ Err refusal → writing (Err (whose.Template refusal)) out ≡ write_by j count numbers wanted out
   unfolding write_by
   write-refused q = let z = sym (ap (λ r. r.judgement) e) ∙ q in rw z
 
-  pub write-passed : rule.judgement ≡ judgement.Passed → {w : Writing Written} → w ≡ write_ruled rule.stored rule.limited rule.maximum count numbers wanted out
+  pub write-passed : rule.judgement ≡ Ok tt → {w : Writing (Result ℕ Refused)} → w ≡ write_ruled rule.stored rule.limited rule.maximum count numbers wanted out
       → w ≡ write_by j count numbers wanted out
   unfolding write_by
   write-passed q o =

@@ -1,10 +1,9 @@
 -- What a body that is written has passed, and that it is a body: stage by stage.
-use Rattle.std.specs.Prelude.{◌≡◌, refl, Bool, true, false, ◌&&◌, ◌||◌, List, ℕ, zero, suc, ◌≤◌, ◌<◌, eqb, leb, ltb, ℤ}
+use Rattle.std.specs.Prelude.{◌≡◌, refl, Bool, true, false, ◌&&◌, ◌||◌, List, ℕ, zero, suc, ◌≤◌, ◌<◌, eqb, leb, ltb, ℤ, Ok}
 use Rattle.std.proofs.Common.{◌∙◌, arith}
 use borrow.Author.Tests.{not-true, eqb-true, le-leb, leb-true, lt-ltb, ne_eqb}
 use Rattle.formats.specs.Bytes.{impossible}
 use Rattle.refusals.specs.Stages.{require, or_else, stages, compactly, require-passed, compactly-passed, stages-passed}
-use Rattle.refusals.specs.declared.Judgement.TheVariants as judgement
 use Rattle.points.specs.Points.{width}
 use Rattle.orders.specs.Orders.{size, points_of}
 use Rattle.orders.proofs.OrderLaws.{points-many}
@@ -47,10 +46,10 @@ module _ (flags : List Bool) (limited : Bool) (maximum count : ℕ) (numbers : L
   -- what holds where all are passed; and where nothing else is wanted, all are
   pub record Passes : Type 0 where
     pub counted : count_fits count (width 1 flags) ≡ true
-    pub fitting : values.judgement_of 1 flags Point count numbers ≡ judgement.Passed
+    pub fitting : values.judgement_of 1 flags Point count numbers ≡ Ok tt
     pub allowed : exceeds limited maximum count ≡ false
 
-  pub passes : (wanted : Bool) → judgement_by flags limited maximum count numbers wanted ≡ judgement.Passed → Passes
+  pub passes : (wanted : Bool) → judgement_by flags limited maximum count numbers wanted ≡ Ok tt → Passes
   unfolding judgement_by
   passes wanted e =
       let x = stages-passed _ e in
@@ -60,7 +59,7 @@ module _ (flags : List Bool) (limited : Bool) (maximum count : ℕ) (numbers : L
         allowed = not-true _ (require-passed _ _ x.1.1.1.0);
       }
 
-  pub passing : Passes → judgement_by flags limited maximum count numbers false ≡ judgement.Passed
+  pub passing : Passes → judgement_by flags limited maximum count numbers false ≡ Ok tt
   unfolding judgement_by stages or_else require compactly
   passing x = rw (x.counted, x.fitting, x.allowed)
 

@@ -10,14 +10,13 @@ ghost use Rattle.bodies.specs.Reading.{ruling, rule_of, exceeds, verdict_by, unj
 ghost use Rattle.bodies.specs.Writing.{count_fits, judgement_by, write_ruled, write_by};
 
 use channels::{Description, Format, Place};
-use formats::Outcome;
 use orders::Order;
-use refusals::{Judgement, Quantity, Refusal};
+use refusals::{Quantity, Refusal};
 
 // What a template says of its bodies: whether there can be one, which channels a point has, and how many points there may be.
 #[derive(Clone, Copy)]
 struct Rule {
-    judgement: Judgement,
+    judgement: Result<(), Refusal>,
     included: [bool; 16],
     stored: [bool; 16],
     limited: bool,
@@ -25,16 +24,14 @@ struct Rule {
 }
 
 // The template's own refusals, and then 16 where it describes no channels.
-fn ruling(verdict: Judgement, described: bool) -> Judgement
+fn ruling(verdict: Result<(), Refusal>, described: bool) -> Result<(), Refusal>
     ensures { result ≡ ruling verdict described }
 {
-    if let Judgement::Refused(_) = verdict {
-        return verdict;
-    }
+    verdict?;
     if !described {
-        return Judgement::Refused(Refusal::Tag);
+        return Err(Refusal::Tag);
     }
-    Judgement::Passed
+    Ok(())
 }
 
 fn rule_of(read: templates::Judged) -> Rule
@@ -66,12 +63,11 @@ fn begun(width: usize, bytes: usize) -> usize
     whole + 1
 }
 
-// What is judged of a body: how many points it has; or which of the two was refused, the template or the body.
+// Which was refused, the template, or the body that it rules.
 #[derive(Clone, Copy)]
-pub enum Verdict {
-    Body { count: usize },
-    TemplateRefused(Refusal),
-    Refused(Refusal),
+pub enum Refused {
+    Template(Refusal),
+    Body(Refusal),
 }
 
 // A template's limit on the number of points (8.2.3).
@@ -82,22 +78,27 @@ fn exceeds(limited: bool, maximum: u32, count: usize) -> bool
 }
 
 // The body by its template's rule: as many points are read as its bytes begin, so that a body that ends inside a point is short.
-fn verdict_by(body: &[u8], stored: [bool; 16], limited: bool, maximum: u32) -> Verdict
+fn verdict_by(
+    body: &[u8],
+    stored: [bool; 16],
+    limited: bool,
+    maximum: u32,
+) -> Result<usize, Refused>
     ensures { result ≡ verdict_by limited maximum (length body.now) (points_in stored body.now) }
 {
     let width = points::width(Format::Compact, stored);
     let count = begun(width, body.len());
     let outcome = points::judge(body, 0, Format::Compact, stored, count);
     match outcome {
-        Outcome::Failed(failure) => Verdict::Refused(refusals::of(failure)),
-        Outcome::Done(end) => {
+        Err(failure) => Err(Refused::Body(refusals::of(failure))),
+        Ok(end) => {
             if end < body.len() {
-                return Verdict::Refused(Refusal::LeftOver { place: end });
+                return Err(Refused::Body(Refusal::LeftOver { place: end }));
             }
             if exceeds(limited, maximum, count) {
-                return Verdict::Refused(Refusal::Maximum);
+                return Err(Refused::Body(Refusal::Maximum));
             }
-            Verdict::Body { count: count }
+            Ok(count)
         }
     }
 }
@@ -105,11 +106,11 @@ fn verdict_by(body: &[u8], stored: [bool; 16], limited: bool, maximum: u32) -> V
 // A verdict, and the template's description, which says nothing of any channel where there is no body.
 #[derive(Clone, Copy)]
 pub struct Judged {
-    pub verdict: Verdict,
+    pub verdict: Result<usize, Refused>,
     pub description: Description,
 }
 
-fn unjudged(verdict: Verdict) -> Judged
+fn unjudged(verdict: Result<usize, Refused>) -> Judged
     ensures { result ≡ unjudged verdict }
 {
     let description = descriptions::nothing(Format::Compact);
@@ -126,12 +127,12 @@ pub fn judge(template: &[u8], body: &[u8]) -> Judged
     let read = templates::read(template);
     let rule = rule_of(read);
     let judgement = rule.judgement;
-    if let Judgement::Refused(refusal) = judgement {
-        return unjudged(Verdict::TemplateRefused(refusal));
+    if let Err(refusal) = judgement {
+        return unjudged(Err(Refused::Template(refusal)));
     }
     let stored = rule.stored;
     let verdict = verdict_by(body, stored, rule.limited, rule.maximum);
-    if let Verdict::Refused(_) = verdict {
+    if let Err(_) = verdict {
         return unjudged(verdict);
     }
     let ruler = read.template;
@@ -142,40 +143,27 @@ pub fn judge(template: &[u8], body: &[u8]) -> Judged
     }
 }
 
-// Whether a body has a point of some index, counted from 0.
-#[derive(Clone, Copy)]
-pub enum Pointed {
-    Point,
-    TemplateRefused(Refusal),
-    Refused(Refusal),
-}
-
 // By the verdict on the body.
-fn pointed_at(verdict: Verdict, index: usize) -> Pointed
+fn pointed_at(verdict: Result<usize, Refused>, index: usize) -> Result<(), Refused>
     ensures { result ≡ pointed_at index verdict }
 {
-    match verdict {
-        Verdict::Body { count } => {
-            if index < count {
-                Pointed::Point
-            } else {
-                Pointed::Refused(Refusal::NoPoint)
-            }
-        }
-        Verdict::TemplateRefused(refusal) => Pointed::TemplateRefused(refusal),
-        Verdict::Refused(refusal) => Pointed::Refused(refusal),
+    let count = verdict?;
+    if index < count {
+        Ok(())
+    } else {
+        Err(Refused::Body(Refusal::NoPoint))
     }
 }
 
 // Template and body are judged first.
-pub fn judge_point(template: &[u8], body: &[u8], index: usize) -> Pointed
+pub fn judge_point(template: &[u8], body: &[u8], index: usize) -> Result<(), Refused>
     ensures { result ≡ pointed_by index (template_of template.now) body.now }
 {
     let read = templates::read(template);
     let rule = rule_of(read);
     let judgement = rule.judgement;
-    if let Judgement::Refused(refusal) = judgement {
-        return Pointed::TemplateRefused(refusal);
+    if let Err(refusal) = judgement {
+        return Err(Refused::Template(refusal));
     }
     let stored = rule.stored;
     let verdict = verdict_by(body, stored, rule.limited, rule.maximum);
@@ -192,20 +180,12 @@ pub fn point(template: &[u8], body: &[u8], index: usize) -> [Place; 16]
     let mut included = [false; 16];
     let mut stored = [false; 16];
     let mut start: usize = 0;
-    if let Pointed::Point = pointed {
+    if let Ok(()) = pointed {
         included = rule.included;
         stored = rule.stored;
         start = index * points::width(Format::Compact, stored);
     }
     point_places::places(body, start, Format::Compact, included, stored)
-}
-
-// What became of a body that was to be written: its length; or which was refused, the template or what was to be written.
-#[derive(Clone, Copy)]
-pub enum Written {
-    Body { length: usize },
-    TemplateRefused(Refusal),
-    Refused(Refusal),
 }
 
 // A count that three bytes don't hold is no record's, and points without bytes leave no trace in a body: both don't fit (request L4).
@@ -223,28 +203,28 @@ fn judge_values(
     count: usize,
     values: &[i32],
     wanted: bool,
-) -> Judgement
+) -> Result<(), Refusal>
     ensures { result ≡ judgement_by stored limited maximum count values.now wanted }
 {
     let width = points::width(Format::Compact, stored);
     if !count_fits(count, width) {
-        return Judgement::Refused(Refusal::NotCompact {
+        return Err(Refusal::NotCompact {
             quantity: Quantity::Count,
         });
     }
     let judged = values::judge(values, count, Format::Compact, stored, Order::Point);
-    if let Judgement::Refused(refusal) = judged {
-        return Judgement::Refused(refusals::in_compact(refusal));
+    if let Err(refusal) = judged {
+        return Err(refusals::in_compact(refusal));
     }
     if wanted {
-        return Judgement::Refused(Refusal::NotCompact {
+        return Err(Refusal::NotCompact {
             quantity: Quantity::ExtendedData,
         });
     }
     if exceeds(limited, maximum, count) {
-        return Judgement::Refused(Refusal::Maximum);
+        return Err(Refusal::Maximum);
     }
-    Judgement::Passed
+    Ok(())
 }
 
 // The same, and the room; then the body is put at the start of the output.
@@ -256,19 +236,19 @@ fn write_ruled(
     values: &[i32],
     wanted: bool,
     out: &mut [u8],
-) -> Written
+) -> Result<usize, Refused>
     ensures { writing result out.new ≡ write_ruled stored limited maximum count values.now wanted out.old }
 {
     let judged = judge_values(stored, limited, maximum, count, values, wanted);
-    if let Judgement::Refused(refusal) = judged {
-        return Written::Refused(refusal);
+    if let Err(refusal) = judged {
+        return Err(Refused::Body(refusal));
     }
     let length = count * points::width(Format::Compact, stored);
     if out.len() < length {
-        return Written::Refused(Refusal::Room);
+        return Err(Refused::Body(Refusal::Room));
     }
     values::put(out, 0, values, count, Format::Compact, stored, Order::Point);
-    Written::Body { length: length }
+    Ok(length)
 }
 
 // A body is written by a template, from values in stored order, point by point. On a refusal the output is as it was; on success only its first bytes change.
@@ -280,14 +260,14 @@ pub fn write(
     wanted: bool,
     extended: &[u8],
     out: &mut [u8],
-) -> Written
+) -> Result<usize, Refused>
     ensures { writing result out.new ≡ write_by (template_of template.now) count values.now wanted out.old }
 {
     let read = templates::read(template);
     let rule = rule_of(read);
     let judgement = rule.judgement;
-    if let Judgement::Refused(refusal) = judgement {
-        return Written::TemplateRefused(refusal);
+    if let Err(refusal) = judgement {
+        return Err(Refused::Template(refusal));
     }
     let stored = rule.stored;
     write_ruled(

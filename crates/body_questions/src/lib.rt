@@ -1,224 +1,229 @@
 // The questions of compact bodies, and of a full record that is turned into one: each is read from its words, asked of the library, and answered.
 #![tactic(auto)]
 
-ghost use Rattle.std.specs.Prelude.{◌≤◌};
+ghost use Rattle.std.specs.Prelude.{◌≤◌, IfOk};
 
-use bodies::{Pointed, Verdict, Written};
+use bodies::Refused;
 use fields::Wanted;
 use refusals::Refusal;
+use texts::Text;
 use turning::Turned;
+use words::{Parsed, Reason};
 
-// How many bytes the words of a line say, and why they say none.
+// How many bytes one word says, as that of a template.
+fn word_at(line: &[u8], at: usize, space: &mut [u8; 131072]) -> Result<Parsed<usize>, Reason>
+    ensures { IfOk result (λ said. said.value ≤ 131072) }
+{
+    let word = words::word_at(line, at);
+    let count = hexadecimal::hex_in(word.value, space);
+    words::read_as(word, count, Reason::NotBytes)
+}
+
+// How many bytes all words from a place on say.
+fn rest_at(line: &[u8], at: usize, space: &mut [u8; 131072]) -> Result<usize, Reason>
+    ensures { IfOk result (λ count. count ≤ 131072) }
+{
+    hexadecimal::bytes_in(words::part(line, at, line.len()), space).ok_or(Reason::NotBytes)
+}
+
+// How many bytes a template has, and its body.
 #[derive(Clone, Copy)]
-struct Bytes {
-    reason: usize,
-    count: usize,
-    behind: usize,
+struct Asked {
+    template: usize,
+    body: usize,
+    ghost template_in_space: { template ≤ 131072 },
+    ghost body_in_space: { body ≤ 131072 },
 }
 
-// The bytes of one word, as those of a template.
-fn word_at(line: &[u8], at: usize, space: &mut [u8; 131072]) -> Bytes {
-    let span = words::next(line, b' ', at);
-    let word = words::part(line, span.from, span.to);
-    let amount = hexadecimal::hex_in(word, space);
-    Bytes {
-        reason: words::reason(amount.good, word, words::NOT_BYTES),
-        count: amount.count,
-        behind: span.to,
-    }
-}
-
-// The bytes of all words from a place on.
-fn rest_at(line: &[u8], at: usize, space: &mut [u8; 131072]) -> Bytes {
-    let amount = hexadecimal::bytes_in(words::part(line, at, line.len()), space);
-    Bytes {
-        reason: if amount.good {
-            words::NO_REASON
-        } else {
-            words::NOT_BYTES
-        },
-        count: amount.count,
-        behind: line.len(),
-    }
-}
-
-// A template and its body: the body is judged, or a point of it is shown.
-pub fn body(text: &mut [u8; 65536], used: u16, line: &[u8], at: usize) -> u16 {
-    read(text, used, line, at, false, 0)
-}
-
-// An index, and then the same.
-pub fn point(text: &mut [u8; 65536], used: u16, line: &[u8], at: usize) -> u16 {
-    let index = numerals::natural_at(line, at, 18446744073709551615);
-    if index.reason != words::NO_REASON {
-        return answers::cannot(text, used, index.reason);
-    }
-    read(text, used, line, index.behind, true, index.value as usize)
-}
-
-fn read(
-    text: &mut [u8; 65536],
-    used: u16,
+// A template, and then its body.
+fn asked_at(
     line: &[u8],
     at: usize,
-    pointing: bool,
-    index: usize,
-) -> u16 {
-    let mut space = [0; 131072];
-    let mut room = [0; 131072];
-    let template = word_at(line, at, &mut space);
-    let body = rest_at(line, template.behind, &mut room);
-    let reason = fields::first_of(template.reason, body.reason);
-    if reason != words::NO_REASON {
-        return answers::cannot(text, used, reason);
-    }
-    let ruler = hexadecimal::first(&space, template.count);
-    let bytes = hexadecimal::first(&room, body.count);
-    if pointing {
-        return show(text, used, ruler, bytes, index);
-    }
-    judge(text, used, ruler, bytes)
+    space: &mut [u8; 131072],
+    room: &mut [u8; 131072],
+) -> Result<Asked, Reason> {
+    let template = word_at(line, at, space)?;
+    let body = rest_at(line, template.behind, room)?;
+    Ok(Asked {
+        template: template.value,
+        body: body,
+    })
 }
 
-fn refused(text: &mut [u8; 65536], used: u16, refusal: Refusal) -> u16 {
-    answers::put(text, used, answers::of_refusal(refusal))
+// A template and its body: the body is judged.
+pub fn body(text: &mut Text, line: &[u8], at: usize) {
+    let mut space = [0; 131072];
+    let mut room = [0; 131072];
+    match asked_at(line, at, &mut space, &mut room) {
+        Ok(asked) => judge(text, &space[0..asked.template], &room[0..asked.body]),
+        Err(reason) => answers::cannot(text, reason),
+    }
+}
+
+// An index, and then the same: that point of the body is shown.
+pub fn point(text: &mut Text, line: &[u8], at: usize) {
+    match numerals::natural_at(line, at, u64::MAX) {
+        Ok(index) => point_behind(text, line, index.behind, index.value as usize),
+        Err(reason) => answers::cannot(text, reason),
+    }
+}
+
+fn point_behind(text: &mut Text, line: &[u8], at: usize, index: usize) {
+    let mut space = [0; 131072];
+    let mut room = [0; 131072];
+    match asked_at(line, at, &mut space, &mut room) {
+        Ok(asked) => show(text, &space[0..asked.template], &room[0..asked.body], index),
+        Err(reason) => answers::cannot(text, reason),
+    }
+}
+
+fn refused(text: &mut Text, refusal: Refusal) {
+    answers::put(text, answers::of_refusal(refusal));
 }
 
 // A refusal that is the template's, not the body's.
-fn template_refused(text: &mut [u8; 65536], start: u16, refusal: Refusal) -> u16 {
-    let used = texts::put_bytes(text, start, b"template ");
-    refused(text, used, refusal)
+fn template_refused(text: &mut Text, refusal: Refusal) {
+    text.put_bytes(b"template ");
+    refused(text, refusal);
 }
 
-fn judge(text: &mut [u8; 65536], start: u16, template: &[u8], body: &[u8]) -> u16 {
+fn judge(text: &mut Text, template: &[u8], body: &[u8]) {
     let judged = bodies::judge(template, body);
     let verdict = judged.verdict;
     match verdict {
-        Verdict::Body { count } => {
-            let used = answers::put(text, start, answers::plain(answers::BODY, 1, count as u64));
-            sayings::put_description(text, used, judged.description)
+        Ok(count) => {
+            answers::put(text, answers::plain(answers::BODY, 1, count as u64));
+            sayings::put_description(text, judged.description)
         }
-        Verdict::TemplateRefused(refusal) => template_refused(text, start, refusal),
-        Verdict::Refused(refusal) => refused(text, start, refusal),
+        Err(Refused::Template(refusal)) => template_refused(text, refusal),
+        Err(Refused::Body(refusal)) => refused(text, refusal),
     }
 }
 
-fn show(text: &mut [u8; 65536], start: u16, template: &[u8], body: &[u8], index: usize) -> u16 {
+fn show(text: &mut Text, template: &[u8], body: &[u8], index: usize) {
     let pointed = bodies::judge_point(template, body, index);
     match pointed {
-        Pointed::Point => {
-            let used = answers::put(text, start, answers::plain(answers::POINT, 0, 0));
-            answers::put_places(text, used, bodies::point(template, body, index))
+        Ok(()) => {
+            answers::put(text, answers::plain(answers::POINT, 0, 0));
+            answers::put_places(text, bodies::point(template, body, index))
         }
-        Pointed::TemplateRefused(refusal) => template_refused(text, start, refusal),
-        Pointed::Refused(refusal) => refused(text, start, refusal),
+        Err(Refused::Template(refusal)) => template_refused(text, refusal),
+        Err(Refused::Body(refusal)) => refused(text, refusal),
     }
+}
+
+// What a body is to be written of, and how many bytes its template has.
+#[derive(Clone, Copy)]
+struct BodyAsked {
+    wanted: Wanted,
+    template: usize,
+    ghost template_in_space: { template ≤ 131072 },
 }
 
 // What `record_at` reads, and then the template.
-pub fn write(text: &mut [u8; 65536], used: u16, line: &[u8], at: usize) -> u16 {
+fn body_asked_at(
+    line: &[u8],
+    at: usize,
+    values: &mut [i32; 131072],
+    space: &mut [u8; 131072],
+    room: &mut [u8; 131072],
+) -> Result<BodyAsked, Reason> {
+    let wanted = fields::record_at(line, at, values, space)?;
+    let template = rest_at(line, wanted.behind, room)?;
+    Ok(BodyAsked {
+        wanted: wanted.value,
+        template: template,
+    })
+}
+
+pub fn write(text: &mut Text, line: &[u8], at: usize) {
     let mut values = [0; 131072];
     let mut space = [0; 131072];
     let mut room = [0; 131072];
-    let wanted = fields::record_at(line, at, &mut values, &mut space);
-    let template = rest_at(line, wanted.behind, &mut room);
-    let reason = fields::first_of(wanted.reason, template.reason);
-    if reason != words::NO_REASON {
-        return answers::cannot(text, used, reason);
+    match body_asked_at(line, at, &mut values, &mut space, &mut room) {
+        Ok(asked) => {
+            let wanted = asked.wanted;
+            write_body(
+                text,
+                &room[0..asked.template],
+                wanted,
+                &values[0..wanted.given],
+                &space[0..wanted.lent],
+            )
+        }
+        Err(reason) => answers::cannot(text, reason),
     }
-    write_body(
-        text,
-        used,
-        hexadecimal::first(&room, template.count),
-        wanted,
-        numerals::first(&values, wanted.given),
-        hexadecimal::first(&space, wanted.lent),
-    )
 }
 
-fn write_body(
-    text: &mut [u8; 65536],
-    start: u16,
-    template: &[u8],
-    wanted: Wanted,
-    values: &[i32],
-    extended: &[u8],
-) -> u16
-    requires { wanted.room ≤ 131072 }
-{
+fn write_body(text: &mut Text, template: &[u8], wanted: Wanted, values: &[i32], extended: &[u8]) {
     let mut out = [170; 131072];
-    let room = wanted.room;
     let written = bodies::write(
         template,
         wanted.count,
         values,
         wanted.extended,
         extended,
-        &mut out[0..room],
+        &mut out[0..wanted.room],
     );
-    let used = put_written(text, start, written);
-    answers::put_lent(text, used, hexadecimal::first(&out, room))
+    put_written(text, written);
+    answers::put_lent(text, &out[0..wanted.room]);
 }
 
-fn put_written(text: &mut [u8; 65536], used: u16, written: Written) -> u16 {
+fn put_written(text: &mut Text, written: Result<usize, Refused>) {
     match written {
-        Written::Body { length } => {
-            answers::put(
-                text,
-                used,
-                answers::plain(answers::WRITTEN, 1, length as u64),
-            )
-        }
-        Written::TemplateRefused(refusal) => template_refused(text, used, refusal),
-        Written::Refused(refusal) => refused(text, used, refusal),
+        Ok(length) => { answers::put(text, answers::plain(answers::WRITTEN, 1, length as u64)) }
+        Err(Refused::Template(refusal)) => template_refused(text, refusal),
+        Err(Refused::Body(refusal)) => refused(text, refusal),
     }
+}
+
+// Two rooms, and how many bytes a record has.
+#[derive(Clone, Copy)]
+struct TurnAsked {
+    first: usize,
+    second: usize,
+    whole: usize,
+    ghost first_in_bounds: { first ≤ 131072 },
+    ghost second_in_bounds: { second ≤ 131072 },
+    ghost whole_in_space: { whole ≤ 131072 },
 }
 
 // Two rooms, and then the record.
-pub fn turn(text: &mut [u8; 65536], used: u16, line: &[u8], at: usize) -> u16 {
+fn turn_asked_at(line: &[u8], at: usize, space: &mut [u8; 131072]) -> Result<TurnAsked, Reason> {
+    let first = numerals::natural_at(line, at, 131072)?;
+    let second = numerals::natural_at(line, first.behind, 131072)?;
+    let whole = rest_at(line, second.behind, space)?;
+    Ok(TurnAsked {
+        first: first.value as usize,
+        second: second.value as usize,
+        whole: whole,
+    })
+}
+
+pub fn turn(text: &mut Text, line: &[u8], at: usize) {
     let mut space = [0; 131072];
-    let first = numerals::natural_at(line, at, 131072);
-    let second = numerals::natural_at(line, first.behind, 131072);
-    let whole = rest_at(line, second.behind, &mut space);
-    let reason = fields::first_of(first.reason, fields::first_of(second.reason, whole.reason));
-    if reason != words::NO_REASON {
-        return answers::cannot(text, used, reason);
+    match turn_asked_at(line, at, &mut space) {
+        Ok(asked) => turn_record(text, &space[0..asked.whole], asked),
+        Err(reason) => answers::cannot(text, reason),
     }
-    turn_record(
-        text,
-        used,
-        hexadecimal::first(&space, whole.count),
-        at_most(first.value as usize),
-        at_most(second.value as usize),
-    )
 }
 
-// No more room than a line could say.
-fn at_most(room: usize) -> usize
-    ensures { result ≤ 131072 }
-{
-    if 131072 < room {
-        return 131072;
-    }
-    room
-}
-
-fn turn_record(text: &mut [u8; 65536], start: u16, whole: &[u8], first: usize, second: usize) -> u16
-    requires { (first ≤ 131072) × (second ≤ 131072) }
-{
+fn turn_record(text: &mut Text, whole: &[u8], asked: TurnAsked) {
     let mut template = [170; 131072];
     let mut body = [170; 131072];
-    let turned = turning::turn(whole, &mut template[0..first], &mut body[0..second]);
-    let used = put_turned(text, start, turned);
-    let used = answers::put_lent(text, used, hexadecimal::first(&template, first));
-    answers::put_lent(text, used, hexadecimal::first(&body, second))
+    let turned = turning::turn(
+        whole,
+        &mut template[0..asked.first],
+        &mut body[0..asked.second],
+    );
+    put_turned(text, turned);
+    answers::put_lent(text, &template[0..asked.first]);
+    answers::put_lent(text, &body[0..asked.second]);
 }
 
-fn put_turned(text: &mut [u8; 65536], used: u16, turned: Turned) -> u16 {
+fn put_turned(text: &mut Text, turned: Result<Turned, Refusal>) {
     match turned {
-        Turned::Both { template, body } => {
-            answers::put(text, used, answers::of_turned(template, body))
-        }
-        Turned::Refused(refusal) => refused(text, used, refusal),
+        Ok(turned) => { answers::put(text, answers::of_turned(turned.template, turned.body)) }
+        Err(refusal) => refused(text, refusal),
     }
 }

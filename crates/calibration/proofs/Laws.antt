@@ -1,5 +1,5 @@
 -- What follows for readings, whatever the division gives: that a scaling value is read by what it is taken apart into; that a value is the division's, of numbers in their ranges; and that a place is read by dividing its operands.
-use Rattle.std.specs.Prelude.{◌≡◌, Bool, ◌&&◌, ℕ, ℤ, pos, negsuc, nat_abs}
+use Rattle.std.specs.Prelude.{◌≡◌, Bool, ◌&&◌, ℕ, ℤ, pos, negsuc, nat_abs, Result, Ok, Err, ⊤}
 use Rattle.std.proofs.Math.Path.{refl}
 use Rattle.std.proofs.Common.{sym, ◌∙◌, subst, arith}
 use Rattle.std.proofs.Math.Bool.{true, false, cond}
@@ -9,8 +9,6 @@ use borrow.Author.Tests.{le-leb}
 use Rattle.formats.specs.Bytes.{impossible}
 use Rattle.refusals.specs.Stages.{require, or_else}
 use Rattle.refusals.specs.Ranges.{first_misfit}
-use Rattle.refusals.specs.declared.Judgement.{Judgement}
-use Rattle.refusals.specs.declared.Judgement.TheVariants.{Passed, Refused}
 use Rattle.channels.specs.declared.Attribute.{Attribute}
 use Rattle.channels.specs.declared.Place.{Place}
 use Rattle.channels.specs.declared.Place.TheVariants.{Absent, Constant, Number}
@@ -18,6 +16,7 @@ use Rattle.calibration.specs.declared.Scaled.{Scaled}
 use Rattle.calibration.proofs.CalibrationLaws.{only-given}
 use Rattle.calibration.specs.Reading.{numbers, scaled_numbers, exponent_of, fraction_of, InRange, value, uncalibrated, read_where, reading, reading_by, scaled_reading, place_reading, raw_of, exponent_by, fraction_by, operands}
 use Rattle.calibration.specs.Laws.{same-range, passed-in-range, refuses, Divides, divide, divided-where}
+use Rattle.refusals.specs.declared.Refusal.{Refusal}
 
 -- ---- Whatever the division gives
 
@@ -38,9 +37,9 @@ module _ {A : Type 0} (divided : (raw : ℤ) (e f : ℕ) → A) where
   unfolding reading read_where
   value_read raw e f x h = go (first_misfit (numbers raw e f)) refl h
     where
-      go : (j : Judgement) → first_misfit (numbers raw e f) ≡ j → value x ≡ read_where j (divided raw e f) → Divides divided raw e f x
-      go Passed m k = record { is = cc; in-range = passed-in-range raw e f m }
-      go (Refused refusal) m k = impossible (cc)
+      go : (j : Result ⊤ Refusal) → first_misfit (numbers raw e f) ≡ j → value x ≡ read_where j (divided raw e f) → Divides divided raw e f x
+      go (Ok _) m k = record { is = cc; in-range = passed-in-range raw e f m }
+      go (Err refusal) m k = impossible (cc)
 
   by_number : (raw number : ℤ) (x : A) → value x ≡ reading_by divided raw number → Divides divided raw (exponent_of (nat_abs number)) (fraction_of (nat_abs number)) x
   by_number raw (pos number) x h = value_read raw (exponent_of number) (fraction_of number) x (h ∙ by-exponent-and-fraction raw number)

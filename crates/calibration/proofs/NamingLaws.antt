@@ -1,5 +1,5 @@
 -- What a reading's 12 names is the first number out of its range: a value is said where none is, and else what the numbers say.
-use Rattle.std.specs.Prelude.{◌≡◌, ◌↔◌, Bool, List, ℕ, ℤ, pos}
+use Rattle.std.specs.Prelude.{◌≡◌, ◌↔◌, Bool, List, ℕ, ℤ, pos, Result, Ok, Err, ⊤}
 use Rattle.std.proofs.Math.Path.{refl, sym}
 use Rattle.std.proofs.Common.{ap}
 use Rattle.std.proofs.Math.Bool.{true, false, cond}
@@ -9,8 +9,6 @@ use Rattle.refusals.proofs.RangeLaws.{named-first, first-named}
 use Rattle.refusals.specs.declared.Quantity.{Quantity}
 use Rattle.refusals.specs.declared.Refusal.{Refusal}
 use Rattle.refusals.specs.declared.Refusal.TheVariants.{OutOfRange}
-use Rattle.refusals.specs.declared.Judgement.{Judgement}
-use Rattle.refusals.specs.declared.Judgement.TheVariants.{Passed, Refused}
 use Rattle.channels.specs.declared.Attribute.{Attribute}
 use Rattle.channels.specs.declared.Place.TheVariants.{Absent, Constant, Number}
 use Rattle.calibration.specs.Reading.{refused, uncalibrated, numbers, scaled_numbers, read_where, reading, reading_by, scaled_reading, place_reading}
@@ -18,10 +16,10 @@ use Rattle.calibration.specs.Naming.{outside, NamesFirst, PlaceNamesFirst}
 
 -- ---- Of some numbers
 
-judged : {A : Type 0} (j : Judgement) (x : A) (refusal : Refusal) → refused refusal ≡ read_where j x → j ≡ Refused refusal
+judged : {A : Type 0} (j : Result ⊤ Refusal) (x : A) (refusal : Refusal) → refused refusal ≡ read_where j x → j ≡ Err refusal
 unfolding read_where
-judged Passed x refusal e = impossible (cc)
-judged (Refused other) x refusal e = ap Refused (cc)
+judged (Ok _) x refusal e = impossible (cc)
+judged (Err other) x refusal e = ap Err (cc)
 
 module _ {A : Type 0} (l : List Ranged) (x : A) (name : Quantity) where
   first : outside name ≡ read_where (first_misfit l) x → FirstOutside l name

@@ -1,5 +1,5 @@
 -- What follows for readings, whatever the division gives: what a scaling value is taken apart into; what a value is that the division gave; and what it is to divide operands.
-use Rattle.std.specs.Prelude.{◌≡◌, Bool, ◌&&◌, ℕ, ◌+◌, ◌*◌, ◌≤◌, leb, ℤ, pos, negsuc, nat_abs}
+use Rattle.std.specs.Prelude.{◌≡◌, Bool, ◌&&◌, ℕ, ◌+◌, ◌*◌, ◌≤◌, leb, ℤ, pos, negsuc, nat_abs, Result, Ok, Err, ⊤}
 use Rattle.std.proofs.Math.Path.{refl}
 use Rattle.std.proofs.Common.{sym, ◌∙◌, arith}
 use Rattle.std.proofs.Math.Logic.{by_cases}
@@ -13,10 +13,9 @@ use Rattle.refusals.specs.Ranges.{first_misfit}
 use Rattle.refusals.proofs.RangeLaws.{passed-fit}
 use Rattle.refusals.specs.declared.Quantity.TheVariants.{Raw, Exponent}
 use Rattle.refusals.specs.declared.Refusal.TheVariants.{OutOfRange}
-use Rattle.refusals.specs.declared.Judgement.{Judgement}
-use Rattle.refusals.specs.declared.Judgement.TheVariants.{Passed, Refused}
 use Rattle.calibration.specs.declared.Scaled.{Scaled}
 use Rattle.calibration.specs.Reading.{numbers, exponent_of, fraction_of, InRange, Answer, value, absent, refused, read_where, operands}
+use Rattle.refusals.specs.declared.Refusal.{Refusal}
 
 -- ---- A scaling value
 
@@ -44,7 +43,7 @@ within (negsuc n) h = go (leb n 32767) refl h
     go true l k = let b = leb-true n 32767 l in omega arith
     go false l k = impossible (cc)
 
-pub passed-in-range : (raw : ℤ) (e f : ℕ) → first_misfit (numbers raw e f) ≡ Passed → InRange raw e f
+pub passed-in-range : (raw : ℤ) (e f : ℕ) → first_misfit (numbers raw e f) ≡ Ok tt → InRange raw e f
 unfolding numbers
 passed-in-range raw e f h =
     let fit = passed-fit (numbers raw e f) h in
@@ -53,7 +52,7 @@ passed-in-range raw e f h =
 -- ---- Whatever the division gives
 
 -- what is refused before anything is divided
-pub refuses : {A : Type 0} (t : Bool) (x y : A) → read_where (or_else (require t (OutOfRange Raw)) (Refused (OutOfRange Exponent))) x ≡ read_where (or_else (require t (OutOfRange Raw)) (Refused (OutOfRange Exponent))) y
+pub refuses : {A : Type 0} (t : Bool) (x y : A) → read_where (or_else (require t (OutOfRange Raw)) (Err (OutOfRange Exponent))) x ≡ read_where (or_else (require t (OutOfRange Raw)) (Err (OutOfRange Exponent))) y
 unfolding read_where or_else require
 refuses true x y = refl
 refuses false x y = refl
@@ -72,7 +71,7 @@ module _ {A : Type 0} (divided : (raw : ℤ) (e f : ℕ) → A) where
   divide absent = absent
   divide (refused refusal) = refused refusal
 
-  pub divided-where : (j : Judgement) (raw : ℤ) (e f : ℕ) → divide (read_where j (operands raw e f)) ≡ read_where j (divided raw e f)
+  pub divided-where : (j : Result ⊤ Refusal) (raw : ℤ) (e f : ℕ) → divide (read_where j (operands raw e f)) ≡ read_where j (divided raw e f)
   unfolding divide read_where
-  divided-where Passed raw e f = refl
-  divided-where (Refused refusal) raw e f = refl
+  divided-where (Ok _) raw e f = refl
+  divided-where (Err refusal) raw e f = refl

@@ -1,16 +1,13 @@
 -- A reading: the stored value divided by the scaling value (7.3.4.3), as document 01 has it, whatever the division gives; without a scaling value there is none, as request L3 has it.
-use Rattle.std.specs.Prelude.{cond, ◌&&◌, List, [], ◌∷◌, ℕ, ◌/◌, ◌%◌, ◌≤◌, ℤ, pos, negsuc, nat_abs, leb}
+use Rattle.std.specs.Prelude.{cond, ◌&&◌, List, [], ◌∷◌, ℕ, ◌/◌, ◌%◌, ◌≤◌, ℤ, pos, negsuc, nat_abs, leb, Result, Ok, Err, Option, Some, None, ⊤}
 use Rattle.std.specs.Int.Signed.{le_z}
 use Rattle.refusals.specs.Ranges.{Ranged, ◌fits_if◌, first_misfit}
 use Rattle.refusals.specs.declared.Quantity.TheVariants.{Raw, Exponent, Fraction}
 use Rattle.refusals.specs.declared.Refusal.{Refusal}
 use Rattle.refusals.specs.declared.Refusal.TheVariants.{Uncalibrated}
-use Rattle.refusals.specs.declared.Judgement.{Judgement}
-use Rattle.refusals.specs.declared.Judgement.TheVariants as judgement
 use Rattle.channels.specs.declared.Attribute.{Attribute}
 use Rattle.channels.specs.declared.Place as place
 use Rattle.calibration.specs.declared.Scaled.{Scaled}
-use Rattle.calibration.specs.declared.Calibrated as calibrated
 
 -- ---- The numbers that it is made of, in the order in which they are judged (request L2)
 
@@ -51,9 +48,9 @@ abbrev pub uncalibrated : {A : Type 0} → Answer A
 uncalibrated = refused Uncalibrated
 
 -- the value, where no number is out of its range
-unfoldable pub read_where : {A : Type 0} → Judgement → A → Answer A
-read_where judgement.Passed v = value v
-read_where (judgement.Refused refusal) v = refused refusal
+unfoldable pub read_where : {A : Type 0} → Result ⊤ Refusal → A → Answer A
+read_where (Ok _) v = value v
+read_where (Err refusal) v = refused refusal
 
 module _ {A : Type 0} (divided : (raw : ℤ) (e f : ℕ) → A) where
   -- of raw, E and F
@@ -91,7 +88,7 @@ fraction_by scaling = fraction_of (nat_abs scaling.number)
 abbrev pub operands : (raw : ℤ) (e f : ℕ) → Scaled
 operands raw e f = record { raw = raw; exponent = e; fraction = f }
 
-abbrev pub told : calibrated.Calibrated → Answer Scaled
-told calibrated.TheVariants.Absent = absent
-told (calibrated.TheVariants.Refused refusal) = refused refusal
-told (calibrated.TheVariants.Present scaled) = value scaled
+abbrev pub told : Option (Result Scaled Refusal) → Answer Scaled
+told None = absent
+told (Some (Err refusal)) = refused refusal
+told (Some (Ok scaled)) = value scaled

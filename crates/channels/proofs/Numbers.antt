@@ -1,4 +1,5 @@
 -- Numbers of 32 and 64 bits that hold a channel's number, its offset, and their sum.
+use Rattle.std.specs.Prelude.{Option, None}
 use mathlib.Core.Bool.{Bool, true, false, not, cond, ◌&&◌}
 use mathlib.Core.Path.{◌≡◌, refl, sym, ap}
 use Prim.Native.Nat.{ℕ, zero, suc, ◌-◌, ◌<◌, ◌≤◌, ◌^◌}
@@ -15,8 +16,6 @@ use Rattle.channels.specs.Channel.{width_of}
 use Rattle.channels.specs.Stored.{offset, value_of, fits, stored-above}
 use Rattle.channels.specs.declared.Format.{Format}
 use Rattle.channels.specs.declared.Format.TheVariants.{Full, Compact}
-use Rattle.channels.specs.declared.Stored.{Stored}
-use Rattle.channels.specs.declared.Stored.TheVariants.{Outside}
 
 -- what holds of both forms of a difference holds of it
 pub sub-ind : (P : ℤ → Type 0) (a b : ℕ) → (a < b → P (negsuc (b - suc a))) → (b ≤ a → P (pos (a - b))) → P (sub_ℕ a b)
@@ -104,5 +103,5 @@ small m l (negsuc n) h g = impossible (cc)
 
 -- so what is stored is found by the two tests
 module _ (m : ℕ) (y : ℤ) (s t : Bool) (h : lt_z y (pos 0) ≡ s) (g : le_z (pos m) y ≡ t) where
-  pub found : (x : Stored) → cond (not s && not t) x Outside ≡ cond (non_neg y && lt_z y (pos m)) x Outside
-  found x = sym (ap (λ z. cond z x Outside) (judged m y s t h g))
+  pub found : (x : Option ℕ) → cond (not s && not t) x None ≡ cond (non_neg y && lt_z y (pos m)) x None
+  found x = sym (ap (λ z. cond z x None) (judged m y s t h g))

@@ -1,13 +1,11 @@
 -- A channel's number, and the number of w bytes that is stored for it: two bytes in a record (7.3.4.4, 7.3.4.5, 7.4.2), one in a template (8.2.2.4).
-use Rattle.std.specs.Prelude.{◌≡◌, refl, Bool, true, false, cond, ◌&&◌, ℕ, zero, suc, ◌-◌, ◌/◌, ◌^◌, ◌<◌, T, ℤ, negsuc, neg_ℤ, ◌+ℤ◌, ◌-ℤ◌}
+use Rattle.std.specs.Prelude.{◌≡◌, refl, Bool, true, false, cond, ◌&&◌, ℕ, zero, suc, ◌-◌, ◌/◌, ◌^◌, ◌<◌, T, ℤ, negsuc, neg_ℤ, ◌+ℤ◌, ◌-ℤ◌, Option, Some, None}
 use Rattle.std.proofs.Common.{sym, ap₂, ◌∙◌, arith, ltb→lt, lt→ltb}
 use Rattle.std.proofs.Math.Path.{ap}
 use Rattle.std.proofs.Math.Nat.{one-le-pow}
 use Rattle.std.proofs.Math.Dec.{leb-zero, leb-suc-zero, leb-suc-suc}
 use Rattle.std.proofs.Math.IntN.{pos, nat_abs, suc_ℤ, -ℤ-+ℤ_cancel, +ℤ-neg_ℤ_cancel, +ℤ_idl, +ℤ_idr, +ℤ-suc_ℤ, +ℤ_comm, neg_ℤ-neg_ℤ}
 use Rattle.std.specs.Int.Signed.{non_neg, le_z, lt_z}
-use Rattle.channels.specs.declared.Stored.{Stored}
-use Rattle.channels.specs.declared.Stored.TheVariants.{Number, Outside}
 
 -- what is added to a signed number before it is stored: 32768 for two bytes, 128 for one
 unfoldable pub offset : ℕ → Bool → ℤ
@@ -27,8 +25,8 @@ unfoldable pub fits : ℕ → Bool → ℤ → Bool
 fits w signed v = non_neg (v +ℤ offset w signed) && lt_z (v +ℤ offset w signed) (pos (256 ^ w))
 
 -- what code answers
-unfoldable pub stored_if : ℕ → Bool → ℤ → Stored
-stored_if w signed v = cond (fits w signed v) (Number (stored_of w signed v)) Outside
+unfoldable pub stored_if : ℕ → Bool → ℤ → Option ℕ
+stored_if w signed v = cond (fits w signed v) (Some (stored_of w signed v)) None
 
 -- ---- What follows, at every width
 

@@ -63,7 +63,7 @@ pub struct Descriptor {
 }
 
 // The full format stores a number in two bytes (clause 7), the compact one in one (clause 8).
-#[derive(Clone, Copy)]
+#[derive(Clone, Copy, PartialEq, Eq)]
 pub enum Format {
     Full,
     Compact,
@@ -80,16 +80,7 @@ pub struct Description {
 pub fn is_same(format: Format, other: Format) -> bool
     ensures { result ≡ is_same format other }
 {
-    match format {
-        Format::Full => match other {
-            Format::Full => true,
-            Format::Compact => false,
-        },
-        Format::Compact => match other {
-            Format::Full => false,
-            Format::Compact => true,
-        },
-    }
+    format == other
 }
 
 // Whether a sample point holds a number for the channel.
@@ -103,28 +94,14 @@ pub fn is_stored(d: Descriptor) -> bool
 pub fn included_channels(d: Description) -> [bool; 16]
     ensures { result ≡ included d }
 {
-    let mut included = [false; 16];
-    let mut i: usize = 0;
-    while i < 16 {
-        let c = d.channels[i];
-        included[i] = c.included;
-        i += 1;
-    }
-    included
+    std::array::from_fn(|channel| d.channels[channel].included)
 }
 
 // Which channels a sample point holds a number of.
 pub fn stored_channels(d: Description) -> [bool; 16]
     ensures { result ≡ stored d }
 {
-    let mut stored = [false; 16];
-    let mut i: usize = 0;
-    while i < 16 {
-        let c = d.channels[i];
-        stored[i] = is_stored(c);
-        i += 1;
-    }
-    stored
+    std::array::from_fn(|channel| is_stored(d.channels[channel]))
 }
 
 // What a sample point says of a channel.
@@ -201,13 +178,6 @@ pub fn value_of(format: Format, signed: bool, number: u16) -> i32
     (number as i32) - offset_of(format, signed)
 }
 
-// What is stored for a number, if anything is.
-#[derive(Clone, Copy)]
-pub enum Stored {
-    Number(u16),
-    Outside,
-}
-
 // The first number that is too large to be stored.
 fn limit_of(format: Format) -> i64
     ensures { result ≡ pos (256 ^ width_of format) }
@@ -219,15 +189,15 @@ fn limit_of(format: Format) -> i64
 }
 
 // What is stored for a number, where it is in the range.
-pub fn stored_of(format: Format, signed: bool, value: i32) -> Stored
+pub fn stored_of(format: Format, signed: bool, value: i32) -> Option<u16>
     ensures { result ≡ stored_if (width_of format) signed value }
 {
     let number = (value as i64) + (offset_of(format, signed) as i64);
     if number < 0 {
-        return Stored::Outside;
+        return None;
     }
     if limit_of(format) <= number {
-        return Stored::Outside;
+        return None;
     }
-    Stored::Number(number as u16)
+    Some(number as u16)
 }

@@ -7,8 +7,6 @@ ghost use Rattle.records.specs.Record.{full_record};
 ghost use Rattle.record_columns.specs.Columns.{columns_read};
 ghost use Rattle.column_costs.specs.Handed.{handing, handed_filling};
 
-use record_columns::Filled;
-
 // 0 where the columns were filled in, or the refusal's number.
 #[unsafe(no_mangle)]
 pub extern "C" fn costs_read_columns(bytes: &[u8], values: &mut [i32]) -> u64
@@ -16,7 +14,7 @@ pub extern "C" fn costs_read_columns(bytes: &[u8], values: &mut [i32]) -> u64
 {
     let filled = record_columns::read_columns(bytes, values);
     match filled {
-        Filled::Columns => 0,
-        Filled::Refused(refusal) => refusals::number(refusal) as u64,
+        Ok(()) => 0,
+        Err(refusal) => refusals::number(refusal) as u64,
     }
 }

@@ -3,16 +3,17 @@
 
 ghost use Rattle.std.specs.Prelude.{◌≤◌};
 
-use record_columns::Filled;
+use refusals::Refusal;
+use texts::Text;
 
 // How many numbers the points behind a front hold; none where there is no front, or where they are more than a line could say.
 fn amount_of(bytes: &[u8]) -> usize
     ensures { result ≤ 131072 }
 {
-    let heading = record_fronts::front_at(bytes, 0);
-    let front = heading.front;
-    let stored = front.stored;
-    let amount = (front.count as usize) * orders::size(stored);
+    let Ok(front) = record_fronts::front_at(bytes, 0) else {
+        return 0;
+    };
+    let amount = (front.count as usize) * orders::size(front.stored);
     if 131072 < amount {
         return 0;
     }
@@ -20,10 +21,10 @@ fn amount_of(bytes: &[u8]) -> usize
 }
 
 // As many numbers are lent as the record has; where it is refused they are not shown.
-pub fn columns(text: &mut [u8; 65536], start: u16, bytes: &[u8]) -> u16 {
+pub fn columns(text: &mut Text, bytes: &[u8]) {
     let mut values = [99999; 131072];
     let amount = amount_of(bytes);
-    fill(text, start, bytes, &mut values[0..amount], false)
+    fill(text, bytes, &mut values[0..amount], false);
 }
 
 // No more numbers than a line could say.
@@ -37,43 +38,40 @@ fn at_most(amount: usize) -> usize
 }
 
 // Some numbers are lent, and shown as they are afterwards.
-pub fn columns_in(text: &mut [u8; 65536], start: u16, bytes: &[u8], amount: usize) -> u16 {
+pub fn columns_in(text: &mut Text, bytes: &[u8], amount: usize) {
     let mut values = [99999; 131072];
     let lent = at_most(amount);
-    fill(text, start, bytes, &mut values[0..lent], true)
+    fill(text, bytes, &mut values[0..lent], true);
 }
 
-fn fill(text: &mut [u8; 65536], start: u16, bytes: &[u8], values: &mut [i32], always: bool) -> u16 {
+fn fill(text: &mut Text, bytes: &[u8], values: &mut [i32], always: bool) {
     let filled = record_columns::read_columns(bytes, values);
-    let used = put(text, start, filled);
-    if let Filled::Refused(_) = filled {
+    put(text, filled);
+    if let Err(_) = filled {
         if !always {
-            return used;
+            return;
         }
     }
-    put_values(text, used, values)
+    put_values(text, values);
 }
 
-fn put(text: &mut [u8; 65536], start: u16, filled: Filled) -> u16 {
+fn put(text: &mut Text, filled: Result<(), Refusal>) {
     match filled {
-        Filled::Columns => texts::put_bytes(text, start, b"columns"),
-        Filled::Refused(refusal) => answers::put(text, start, answers::of_refusal(refusal)),
+        Ok(()) => text.put_bytes(b"columns"),
+        Err(refusal) => answers::put(text, answers::of_refusal(refusal)),
     }
 }
 
 // Numbers with commas between them, or `-` where there are none; a space stands before them.
-fn put_values(text: &mut [u8; 65536], start: u16, values: &[i32]) -> u16 {
-    let mut used = texts::put(text, start, b' ');
+fn put_values(text: &mut Text, values: &[i32]) {
+    text.put(b' ');
     if values.len() == 0 {
-        return texts::put(text, used, b'-');
+        return text.put(b'-');
     }
-    let mut i: usize = 0;
-    while i < values.len() {
+    for (i, &value) in values.iter().enumerate() {
         if 0 < i {
-            used = texts::put(text, used, b',');
+            text.put(b',');
         }
-        used = texts::put_value(text, used, values[i]);
-        i += 1;
+        text.put_value(value);
     }
-    used
 }

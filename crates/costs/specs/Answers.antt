@@ -20,7 +20,7 @@ module _ (s : List ℕ) where
   pub one-judgement : (channel : ℕ) → OneAnswer (λ r. r ≡ handed_judgement channel (judged (run full_record s)))
   one-judgement channel = named
 
-  pub one-description : (compact : Bool) (channel : ℕ) → OneAnswer (λ r. r ≡ handed_description channel (described (format_if compact) (read_at (description (format_if compact)) s 0)))
+  pub one-description : (compact : Bool) (channel : ℕ) → OneAnswer (λ r. r ≡ handed_description (format_if compact) channel (described (read_at (description (format_if compact)) s 0)))
   one-description compact channel = named
 
   pub one-point : (index channel : ℕ) → OneAnswer (λ r. r ≡ handed_point channel (places_in index (run full_record s)))

@@ -1,15 +1,9 @@
 -- What is handed over to C, by what the library answers: 0 for what was asked for, else the refusal's number.
-use Rattle.std.specs.Prelude.{Bool, false, cond, List, ℕ, ◌%◌, eqb, ℤ, pos, length, get_or, take, drop}
+use Rattle.std.specs.Prelude.{Bool, false, cond, List, ℕ, ◌%◌, eqb, ℤ, pos, length, get_or, take, drop, Result, Ok, Err, Option, Some, None, ⊤}
 use Rattle.formats.specs.Reader.{read_at}
 use Rattle.formats.specs.Lent.{Writing, writing}
-use Rattle.formats.specs.declared.Outcome.{Outcome}
-use Rattle.formats.specs.declared.Outcome.TheVariants as outcome
 use Rattle.refusals.specs.Table.{number_of, place_of, refusal_of}
-use Rattle.refusals.specs.declared.Where.{Where}
-use Rattle.refusals.specs.declared.Where.TheVariants.{At, Nowhere}
 use Rattle.refusals.specs.declared.Refusal.{Refusal}
-use Rattle.refusals.specs.declared.Judgement as stages
-use Rattle.refusals.specs.declared.Judgement.TheVariants as stage
 use Rattle.channels.specs.declared.Attribute.{Attribute}
 use Rattle.channels.specs.declared.Descriptor.{Descriptor}
 use Rattle.channels.specs.declared.Description.{Description}
@@ -19,18 +13,13 @@ use Rattle.channels.specs.Descriptors.{absent}
 use Rattle.channels.specs.declared.Format.{Format}
 use Rattle.channels.specs.declared.Format.TheVariants.{Full, Compact}
 use Rattle.descriptions.specs.Description.{description}
-use Rattle.descriptions.specs.Read.{described}
+use Rattle.descriptions.specs.Read.{nothing, described}
 use Rattle.descriptions.specs.declared.Described.{Described}
-use Rattle.record_reading.specs.declared.Verdict.{Verdict}
-use Rattle.record_reading.specs.declared.Verdict.TheVariants as verdict
+use Rattle.record_reading.specs.declared.Extent.{Extent}
 use Rattle.record_reading.specs.declared.Judged.{Judged}
-use Rattle.record_writing.specs.declared.Written as record-written
-use Rattle.walks.specs.declared.Found.{Found}
-use Rattle.walks.specs.declared.Found.TheVariants as found
 use Rattle.walks.specs.declared.Step.{Step}
 use Rattle.templates.specs.declared.Template.{Template}
 use Rattle.templates.specs.declared.Judged as template
-use Rattle.template_writing.specs.declared.Written as template-written
 use Rattle.calibration.specs.Reading as calibration
 use Rattle.readings.specs.Thousandths as readings
 use Rattle.costs.specs.declared.Said.{Said}
@@ -42,6 +31,8 @@ use Rattle.costs.specs.declared.Done.{Done}
 use Rattle.costs.specs.declared.Stepped.{Stepped}
 use Rattle.costs.specs.declared.Templated.{Templated}
 use Rattle.costs.specs.declared.Read.{Read}
+use Rattle.record_reading.specs.declared.Extent.{Extent}
+use Rattle.formats.specs.declared.Failure.{Failure}
 
 -- ---- A channel, a refusal's place
 
@@ -68,19 +59,19 @@ unfoldable pub handed_channel : (channel : ℕ) → Description → Said
 handed_channel channel d = handed_descriptor (get_or d.channels (channel % 16) absent)
 
 -- a place that is named, or 0
-abbrev pub handed_where : Where → ℕ
-handed_where (At byte) = byte
-handed_where Nowhere = 0
+abbrev pub handed_where : Option ℕ → ℕ
+handed_where (Some byte) = byte
+handed_where None = 0
 
 unfoldable pub handed_place : Refusal → ℕ
 handed_place refusal = handed_where (place_of refusal)
 
 -- ---- A record
 
-abbrev pub handed_verdict : Said → Verdict → Judgement
-handed_verdict said (verdict.Record length count extended) =
-    record { number = 0; place = length; count = count; extended = extended; said = said }
-handed_verdict said (verdict.Refused refusal) =
+abbrev pub handed_verdict : Said → Result Extent Refusal → Judgement
+handed_verdict said (Ok extent) =
+    record { number = 0; place = extent.length; count = extent.count; extended = extent.extended; said = said }
+handed_verdict said (Err refusal) =
     record { number = number_of refusal; place = handed_place refusal; count = 0; extended = false; said = said }
 
 unfoldable pub handed_judgement : (channel : ℕ) → Judged → Judgement
@@ -88,21 +79,23 @@ handed_judgement channel j = handed_verdict (handed_channel channel j.descriptio
 
 -- ---- A description
 
-abbrev pub handed_outcome : Said → Outcome → Told
-handed_outcome said (outcome.Done end) = record { number = 0; place = end; said = said }
-handed_outcome said (outcome.Failed failure) =
-    record { number = number_of (refusal_of failure); place = handed_place (refusal_of failure); said = said }
-
-unfoldable pub handed_description : (channel : ℕ) → Described → Told
-handed_description channel d = handed_outcome (handed_channel channel d.description) d.outcome
+-- of a description that is not there nothing is said of any channel
+unfoldable pub handed_description : Format → (channel : ℕ) → Result Described Failure → Told
+handed_description format channel (Ok d) = record { number = 0; place = d.end; said = handed_channel channel d.description }
+handed_description format channel (Err failure) =
+    record { number = number_of (refusal_of failure); place = handed_place (refusal_of failure); said = handed_channel channel (nothing format) }
 
 -- the format that is asked for
 unfoldable pub format_if : (compact : Bool) → Format
 format_if compact = cond compact Compact Full
 
 -- what stands at the start of some bytes, in a format: the description that a writer is handed
+abbrev pub said_in : Format → Result Described Failure → Description
+said_in format (Ok d) = d.description
+said_in format (Err failure) = nothing format
+
 unfoldable pub read_header : Format → List ℕ → Description
-read_header format bytes = (described format (read_at (description format) bytes 0)).description
+read_header format bytes = said_in format (described (read_at (description format) bytes 0))
 
 -- ---- A place of a point, a part of some bytes
 
@@ -134,24 +127,24 @@ wrote length = record { number = 0; length = length }
 abbrev pub wrote_nothing : Refusal → Done
 wrote_nothing refusal = record { number = number_of refusal; length = 0 }
 
-abbrev pub handed_record : record-written.Written → Done
-handed_record (record-written.TheVariants.Record length) = wrote length
-handed_record (record-written.TheVariants.Refused refusal) = wrote_nothing refusal
+abbrev pub handed_record : (Result ℕ Refusal) → Done
+handed_record (Ok length) = wrote length
+handed_record (Err refusal) = wrote_nothing refusal
 
-abbrev pub handed_template : template-written.Written → Done
-handed_template (template-written.TheVariants.Done length) = wrote length
-handed_template (template-written.TheVariants.Refused refusal) = wrote_nothing refusal
+abbrev pub handed_template : (Result ℕ Refusal) → Done
+handed_template (Ok length) = wrote length
+handed_template (Err refusal) = wrote_nothing refusal
 
 abbrev pub handed_writing : {Answer : Type 0} → (Answer → Done) → Writing Answer → Writing Done
 handed_writing handed w = writing (handed w.answer) w.bytes
 
 -- ---- A step over a file
 
-abbrev pub handed_found : (next : ℕ) → Found → Stepped
-handed_found next (found.Record length count extended) =
-    record { number = 0; place = length; count = count; extended = extended; next = next }
-handed_found next found.End = record { number = 100; place = 0; count = 0; extended = false; next = next }
-handed_found next (found.Refused refusal) =
+abbrev pub handed_found : (next : ℕ) → Option (Result Extent Refusal) → Stepped
+handed_found next (Some (Ok extent)) =
+    record { number = 0; place = extent.length; count = extent.count; extended = extent.extended; next = next }
+handed_found next None = record { number = 100; place = 0; count = 0; extended = false; next = next }
+handed_found next (Some (Err refusal)) =
     record { number = number_of refusal; place = handed_place refusal; count = 0; extended = false; next = next }
 
 unfoldable pub handed_step : Step → Stepped
@@ -170,9 +163,9 @@ templated channel number place t = record {
   said = handed_channel channel t.description;
 }
 
-abbrev pub handed_stage : (channel : ℕ) → Template → stages.Judgement → Templated
-handed_stage channel t stage.Passed = templated channel 0 0 t
-handed_stage channel t (stage.Refused refusal) = templated channel (number_of refusal) (handed_place refusal) t
+abbrev pub handed_stage : (channel : ℕ) → Template → (Result ⊤ Refusal) → Templated
+handed_stage channel t (Ok _) = templated channel 0 0 t
+handed_stage channel t (Err refusal) = templated channel (number_of refusal) (handed_place refusal) t
 
 unfoldable pub handed_read_template : (channel : ℕ) → template.Judged → Templated
 handed_read_template channel j = handed_stage channel j.template j.verdict

@@ -21,11 +21,7 @@ ghost use Rattle.readings.specs.Thousandths.{told, told_place, reading, place_re
 ghost use Rattle.costs.specs.Handed.{handed_descriptor, handed_place, handed_judgement, handed_description, format_if, read_header, seat_of, handed_point, place_from, piece_of, handed_part, handed_record, handed_template, handed_writing, handed_step, handed_read_template, handed_reading, scaling_from};
 
 use channels::{Attribute, Descriptor, Format, Place};
-use formats::Outcome;
-use readings::{PlaceReading, Reading};
-use record_reading::Verdict;
-use refusals::{Refusal, Where};
-use walks::Found;
+use refusals::Refusal;
 
 // What a description says of one channel.
 #[repr(C)]
@@ -72,8 +68,8 @@ fn place_of(refusal: Refusal) -> usize
 {
     let place = refusals::place(refusal);
     match place {
-        Where::At(byte) => byte,
-        Where::Nowhere => 0,
+        Some(byte) => byte,
+        None => 0,
     }
 }
 
@@ -99,18 +95,14 @@ pub extern "C" fn costs_judge(bytes: &[u8], channel: usize) -> Judgement
     let said = said_of(d);
     let verdict = judged.verdict;
     match verdict {
-        Verdict::Record {
-            length,
-            count,
-            extended,
-        } => Judgement {
+        Ok(extent) => Judgement {
             number: 0,
-            place: length,
-            count: count,
-            extended: extended,
+            place: extent.length,
+            count: extent.count,
+            extended: extent.extended,
             said: said,
         },
-        Verdict::Refused(refusal) => Judgement {
+        Err(refusal) => Judgement {
             number: refusals::number(refusal) as u64,
             place: place_of(refusal),
             count: 0,
@@ -131,31 +123,26 @@ pub struct Told {
 
 #[unsafe(no_mangle)]
 pub extern "C" fn costs_describe(bytes: &[u8], compact: bool, channel: usize) -> Told
-    ensures { result ≡ handed_description channel (described (format_if compact) (read_at (description (format_if compact)) bytes.now 0)) }
+    ensures { result ≡ handed_description (format_if compact) channel (described (read_at (description (format_if compact)) bytes.now 0)) }
 {
     let format = if compact {
         Format::Compact
     } else {
         Format::Full
     };
-    let described = descriptions::read(bytes, 0, format);
-    let description = described.description;
     let of = channel % 16;
-    let d = description.channels[of];
-    let said = said_of(d);
-    let outcome = described.outcome;
-    match outcome {
-        Outcome::Done(end) => Told {
+    match descriptions::read(bytes, 0, format) {
+        Ok(described) => Told {
             number: 0,
-            place: end,
-            said: said,
+            place: described.end,
+            said: said_of(described.description.channels[of]),
         },
-        Outcome::Failed(failure) => {
+        Err(failure) => {
             let refusal = refusals::of(failure);
             Told {
                 number: refusals::number(refusal) as u64,
                 place: place_of(refusal),
-                said: said,
+                said: said_of(descriptions::nothing(format).channels[of]),
             }
         }
     }
@@ -238,7 +225,24 @@ pub struct Done {
     pub length: usize,
 }
 
+// What a writer answered.
+fn written(answer: Result<usize, Refusal>) -> Done
+    ensures { result ≡ handed_record answer }
+{
+    match answer {
+        Ok(length) => Done {
+            number: 0,
+            length: length,
+        },
+        Err(refusal) => Done {
+            number: refusals::number(refusal) as u64,
+            length: 0,
+        },
+    }
+}
+
 // The description is the one that stands at the start of `header`: inclusion bytes and descriptors.
+// Handing it over within the `match` is cheaper than keeping it first (instructions of a record without points, and of a template: 3092 and 2776, not 3141 and 2855).
 #[unsafe(no_mangle)]
 pub extern "C" fn costs_write(
     header: &[u8],
@@ -250,18 +254,23 @@ pub extern "C" fn costs_write(
 ) -> Done
     ensures { writing result out.new ≡ handed_writing handed_record (write_of (read_header Full header.now) count values.now wanted extended.now out.old) }
 {
-    let described = descriptions::read(header, 0, Format::Full);
-    let description = described.description;
-    let written = record_writing::write(description, count, values, wanted, extended, out);
-    match written {
-        record_writing::Written::Record { length } => Done {
-            number: 0,
-            length: length,
-        },
-        record_writing::Written::Refused(refusal) => Done {
-            number: refusals::number(refusal) as u64,
-            length: 0,
-        },
+    match descriptions::read(header, 0, Format::Full) {
+        Ok(described) => written(record_writing::write(
+            described.description,
+            count,
+            values,
+            wanted,
+            extended,
+            out,
+        )),
+        Err(_) => written(record_writing::write(
+            descriptions::nothing(Format::Full),
+            count,
+            values,
+            wanted,
+            extended,
+            out,
+        )),
     }
 }
 
@@ -284,25 +293,21 @@ pub extern "C" fn costs_step(file: &[u8], place: usize) -> Stepped
     let next = step.next;
     let found = step.found;
     match found {
-        Found::Record {
-            length,
-            count,
-            extended,
-        } => Stepped {
+        Some(Ok(extent)) => Stepped {
             number: 0,
-            place: length,
-            count: count,
-            extended: extended,
+            place: extent.length,
+            count: extent.count,
+            extended: extent.extended,
             next: next,
         },
-        Found::End => Stepped {
+        None => Stepped {
             number: 100,
             place: 0,
             count: 0,
             extended: false,
             next: next,
         },
-        Found::Refused(refusal) => Stepped {
+        Some(Err(refusal)) => Stepped {
             number: refusals::number(refusal) as u64,
             place: place_of(refusal),
             count: 0,
@@ -336,7 +341,7 @@ pub extern "C" fn costs_read_template(bytes: &[u8], channel: usize) -> Templated
     let said = said_of(d);
     let verdict = judged.verdict;
     match verdict {
-        refusals::Judgement::Passed => Templated {
+        Ok(()) => Templated {
             number: 0,
             place: 0,
             described: template.described,
@@ -344,7 +349,7 @@ pub extern "C" fn costs_read_template(bytes: &[u8], channel: usize) -> Templated
             maximum: template.maximum,
             said: said,
         },
-        refusals::Judgement::Refused(refusal) => Templated {
+        Err(refusal) => Templated {
             number: refusals::number(refusal) as u64,
             place: place_of(refusal),
             described: template.described,
@@ -365,18 +370,21 @@ pub extern "C" fn costs_write_template(
 ) -> Done
     ensures { writing result out.new ≡ handed_writing handed_template (template.write_of true (read_header Compact header.now) limited maximum out.old) }
 {
-    let described = descriptions::read(header, 0, Format::Compact);
-    let description = described.description;
-    let written = template_writing::write(true, description, limited, maximum, out);
-    match written {
-        template_writing::Written::Done(length) => Done {
-            number: 0,
-            length: length,
-        },
-        template_writing::Written::Refused(refusal) => Done {
-            number: refusals::number(refusal) as u64,
-            length: 0,
-        },
+    match descriptions::read(header, 0, Format::Compact) {
+        Ok(described) => written(template_writing::write(
+            true,
+            described.description,
+            limited,
+            maximum,
+            out,
+        )),
+        Err(_) => written(template_writing::write(
+            true,
+            descriptions::nothing(Format::Compact),
+            limited,
+            maximum,
+            out,
+        )),
     }
 }
 
@@ -388,15 +396,15 @@ pub struct Read {
     pub thousandths: i64,
 }
 
-fn read_of(reading: Reading) -> Read
+fn read_of(reading: Result<i64, Refusal>) -> Read
     ensures { result ≡ handed_reading (told reading) }
 {
     match reading {
-        Reading::Thousandths(n) => Read {
+        Ok(n) => Read {
             number: 0,
             thousandths: n,
         },
-        Reading::Refused(refusal) => Read {
+        Err(refusal) => Read {
             number: refusals::number(refusal) as u64,
             thousandths: 0,
         },
@@ -410,15 +418,15 @@ pub extern "C" fn costs_thousandths(raw: i64, e: u64, f: u64) -> Read
     read_of(readings::to_thousandths(raw, e, f))
 }
 
-fn read_of_place(reading: PlaceReading) -> Read
+fn read_of_place(reading: Option<Result<i64, Refusal>>) -> Read
     ensures { result ≡ handed_reading (told_place reading) }
 {
     match reading {
-        PlaceReading::Absent => Read {
+        None => Read {
             number: 1,
             thousandths: 0,
         },
-        PlaceReading::Present(present) => read_of(present),
+        Some(present) => read_of(present),
     }
 }
 

@@ -1,5 +1,5 @@
 -- What document 01 demands of judging, said of what `judge`, `verdict_at` and `judge_whole` answer: for any bytes, and any answer that meets the promise.
-use Rattle.std.specs.Prelude.{◌≡◌, ◌↔◌, ◌≢◌, ◌⊎◌, Bool, List, [], ℕ, suc, ◌-◌, ◌≤◌, ◌<◌, length, take, drop, get_or}
+use Rattle.std.specs.Prelude.{◌≡◌, ◌↔◌, ◌≢◌, ◌⊎◌, Bool, List, [], ℕ, suc, ◌-◌, ◌≤◌, ◌<◌, length, take, drop, get_or, Ok, Result, Err}
 use Rattle.std.proofs.Common.{sym, ap, ◌∙◌, arith, take_all}
 use Rattle.formats.specs.Bytes.{Bytes, bytes_drop}
 use Rattle.formats.specs.Reader.{bad, run, read_at}
@@ -12,8 +12,7 @@ use Rattle.records.specs.Demands as demands
 use Rattle.records.specs.Demands.{Begins}
 use Rattle.records.specs.Blame as blame
 use Rattle.record_reading.specs.Verdict.{judged_whole}
-use Rattle.record_reading.specs.declared.Verdict.{Verdict}
-use Rattle.record_reading.specs.declared.Verdict.TheVariants as verdict
+use Rattle.record_reading.specs.declared.Extent.{Extent}
 use Rattle.record_reading.specs.declared.Judged.{Judged}
 use Rattle.demands.specs.Promises as promises
 use Rattle.demands.specs.Saying.{saying, Accepts, Refuses, Sayable}
@@ -27,13 +26,13 @@ module _ (s : List ℕ) (bytes : Bytes s) where
 
   module _ (r : Judged) (answers : promises.judge s r) where
     -- judge says short exactly when the bytes are a beginning, and not the whole, of a record
-    pub short-exactly : (r.verdict ≡ verdict.Refused Short) ↔ ((x : Begins s) × (x.rest ≢ []))
+    pub short-exactly : (r.verdict ≡ Err Short) ↔ ((x : Begins s) × (x.rest ≢ []))
     short-exactly = (to, from)
       where
-        to : r.verdict ≡ verdict.Refused Short → (x : Begins s) × (x.rest ≢ [])
+        to : r.verdict ≡ Err Short → (x : Begins s) × (x.rest ≢ [])
         to e = let y = (demands.short-exactly s bytes).0 (short-read 0 (run full_record s) numbered (rw answers at e)) in (y.0, y.1)
 
-        from : (x : Begins s) × (x.rest ≢ []) → r.verdict ≡ verdict.Refused Short
+        from : (x : Begins s) × (x.rest ≢ []) → r.verdict ≡ Err Short
         from x = rw answers (read_short 0 (run full_record s) ((demands.short-exactly s bytes).1 (x.0, x.1)))
 
     -- of a record, whatever follows it, judge says its length, count and description, and whether it has extended data
@@ -75,17 +74,17 @@ module _ (s : List ℕ) (bytes : Bytes s) where
   -- ---- From a place on: verdict_at
 
   -- it says what judge says of the bytes from there on
-  module _ (start : ℕ) (r : Verdict) (answers : promises.verdict_at s start r) (q : Judged) (judges : promises.judge (drop start s) q) where
+  module _ (start : ℕ) (r : Result Extent Refusal) (answers : promises.verdict_at s start r) (q : Judged) (judges : promises.judge (drop start s) q) where
     numbered-behind : Numbered (run full_record (drop start s))
     numbered-behind = blame.no-other-number (drop start s) (bytes_drop start s bytes)
 
     -- the same record
-    pub record-at : (n count : ℕ) (extended : Bool) → (r ≡ verdict.Record n count extended) ↔ (q.verdict ≡ verdict.Record n count extended)
+    pub record-at : (n count : ℕ) (extended : Bool) → (r ≡ Ok (record { length = n; count = count; extended = extended })) ↔ (q.verdict ≡ Ok (record { length = n; count = count; extended = extended }))
     unfolding read_at
     record-at n count extended = rw (answers, judges) (record-moved start (run full_record (drop start s)) n count extended)
 
     -- short alike
-    pub short-at : (r ≡ verdict.Refused Short) ↔ (q.verdict ≡ verdict.Refused Short)
+    pub short-at : (r ≡ Err Short) ↔ (q.verdict ≡ Err Short)
     unfolding read_at
     short-at = rw (answers, judges) (short-moved start (run full_record (drop start s)) numbered-behind)
 
@@ -123,21 +122,21 @@ module _ (s : List ℕ) (bytes : Bytes s) where
     whole_length n x = (taken n x).0
 
     -- judge_whole refuses with 9, at a place, exactly when that is a place of the slice and the bytes before it are a record
-    pub left-over-exactly : (place : ℕ) → (r.verdict ≡ verdict.Refused (LeftOver place)) ↔ ((place < length s) × IsRecord (take place s))
+    pub left-over-exactly : (place : ℕ) → (r.verdict ≡ Err (LeftOver place)) ↔ ((place < length s) × IsRecord (take place s))
     left-over-exactly place = (to, from)
       where
-        to : r.verdict ≡ verdict.Refused (LeftOver place) → (place < length s) × IsRecord (take place s)
+        to : r.verdict ≡ Err (LeftOver place) → (place < length s) × IsRecord (take place s)
         to e = let q = left-read (length s) (run full_record s) numbered place (rw answers at e) in (q.2, is-record s bytes q.0 place q.1)
 
-        from : (place < length s) × IsRecord (take place s) → r.verdict ≡ verdict.Refused (LeftOver place)
+        from : (place < length s) × IsRecord (take place s) → r.verdict ≡ Err (LeftOver place)
         from x =
             let read = record-is-read s place (omega (arith, x.0)) x.1 in
             ap (λ v. v.verdict) (answers ∙ ap (judged_whole (length s)) read ∙ whole-left (length s) x.1.value place x.0)
 
     -- what judge refuses judge_whole refuses alike
-    pub refused-alike : (q : Judged) → promises.judge s q → (refusal : Refusal) → q.verdict ≡ verdict.Refused refusal → r ≡ q
+    pub refused-alike : (q : Judged) → promises.judge s q → (refusal : Refusal) → q.verdict ≡ Err refusal → r ≡ q
     refused-alike q e refusal x = answers ∙ whole-refused (length s) (run full_record s) refusal (rw e at x) ∙ sym e
 
     -- judge_whole says nothing else: what judge may say, or bytes left over
-    pub whole-nothing-else : Sayable r.verdict ⊎ ((place : ℕ) × (r.verdict ≡ verdict.Refused (LeftOver place)))
+    pub whole-nothing-else : Sayable r.verdict ⊎ ((place : ℕ) × (r.verdict ≡ Err (LeftOver place)))
     whole-nothing-else = rw answers (whole-said (length s) (run full_record s) numbered)

@@ -1,5 +1,5 @@
 -- What `judge`, `verdict_at` and `judge_whole` answer tells how reading ended: laws over the reader's three answers.
-use Rattle.std.specs.Prelude.{◌≡◌, ◌↔◌, ◌⊎◌, Bool, cond, List, [], ℕ, ◌+◌, ◌-◌, ◌≤◌, ◌<◌, length, take, drop}
+use Rattle.std.specs.Prelude.{◌≡◌, ◌↔◌, ◌⊎◌, Bool, cond, List, [], ℕ, ◌+◌, ◌-◌, ◌≤◌, ◌<◌, length, take, drop, Result, Ok, Err, Some}
 use Rattle.std.proofs.Math.Path.{refl, ap, ap₂}
 use Rattle.std.proofs.Common.{sym, ◌∙◌, append-nil, take-append-drop, length-take-le}
 use Rattle.std.proofs.Math.Logic.{inl, inr}
@@ -14,13 +14,12 @@ use Rattle.formats.proofs.Lawful.{reads-append}
 use Rattle.formats.specs.declared.Failure.TheVariants as failure
 use Rattle.refusals.specs.Table.{number_of, place_of, refusal_of}
 use Rattle.refusals.specs.Laws.{bad-refusal}
-use Rattle.refusals.specs.declared.Where.TheVariants.{At}
 use Rattle.refusals.specs.declared.Refusal.{Refusal}
 use Rattle.refusals.specs.declared.Refusal.TheVariants.{Short, LeftOver}
 use Rattle.records.specs.Record.{Record, full_record, encode, IsRecord, present}
 use Rattle.records.specs.Demands.{read-after-write, write-after-read}
+use Rattle.record_reading.specs.Extents.{same_extent}
 use Rattle.record_reading.specs.Verdict.{verdict_from, description_in, judged, unjudged, judged_whole}
-use Rattle.record_reading.specs.declared.Verdict.TheVariants as verdict
 use Rattle.record_reading.specs.declared.Judged.{Judged}
 use Rattle.demands.specs.Saying.{saying, Accepts, Refuses, Sayable, a_record, too_short, refused_at}
 
@@ -45,12 +44,12 @@ record-is-read s n h x =
 
 ok-judged : (q : Record) (n : ℕ) → judged (ok q n) ≡ saying n q
 unfolding verdict_from description_in
-ok-judged q n = λ i. record { verdict = verdict.Record (sub-zero n i) (length q.points) (present q.extended); description = q.description }
+ok-judged q n = λ i. record { verdict = (Ok (record { length = sub-zero n i; count = length q.points; extended = present q.extended })); description = q.description }
 
 -- it says a record where reading took one
 pub record-read : (a : Answer Record) (n : ℕ) → Accepts (judged a).verdict n → (q : Record) × (a ≡ ok q n)
 unfolding verdict_from
-record-read (ok q m) n x = let z : m - 0 ≡ n = cc x.accepted in (q, ap (ok q) (sym (sub-zero m) ∙ z))
+record-read (ok q m) n x = let z : m - 0 ≡ n = (same_extent x.accepted).0 in (q, ap (ok q) (sym (sub-zero m) ∙ z))
 record-read short n x = impossible (cc x.accepted)
 record-read (bad k p) n x = impossible (cc x.accepted)
 
@@ -64,14 +63,14 @@ read-judged a q n e = ap judged e ∙ ok-judged q n
 abbrev pub Numbered : Answer Record → Type 0
 Numbered a = (k p : ℕ) → a ≡ bad k p → (2 ≤ k) × (k ≤ 8)
 
-one_place : {p q : ℕ} → At p ≡ At q → p ≡ q
+one_place : {p q : ℕ} → Some p ≡ Some q → p ≡ q
 one_place e = cc
 
-same-refusal : {x y : Refusal} → verdict.Refused x ≡ verdict.Refused y → x ≡ y
+same-refusal : {A : Type 0} {x y : Refusal} → ◌≡◌ {A = Result A Refusal} (Err x) (Err y) → x ≡ y
 same-refusal e = cc
 
 -- it says short where reading did
-pub short-read : (start : ℕ) (a : Answer Record) → Numbered a → verdict_from start a ≡ verdict.Refused Short → a ≡ short
+pub short-read : (start : ℕ) (a : Answer Record) → Numbered a → verdict_from start a ≡ Err Short → a ≡ short
 unfolding verdict_from
 short-read start (ok q n) h e = impossible (cc)
 short-read start short h e = refl
@@ -79,7 +78,7 @@ short-read start (bad k p) h e =
     let bounds = h k p refl in
     absurd (omega (arith, bounds.0, (bad-refusal k p bounds.0 (omega (arith, bounds.1))).0, ap number_of (same-refusal e)))
 
-pub read_short : (start : ℕ) (a : Answer Record) → a ≡ short → verdict_from start a ≡ verdict.Refused Short
+pub read_short : (start : ℕ) (a : Answer Record) → a ≡ short → verdict_from start a ≡ Err Short
 unfolding verdict_from refusal_of
 read_short start a e = ap (verdict_from start) e
 
@@ -139,7 +138,7 @@ module _ (start : ℕ) where
   numbered-moved a h k p e = h k (p - start) (moved-bad a k p e).1
 
   -- a record alike, and short alike
-  pub record-moved : (a : Answer Record) (n count : ℕ) (extended : Bool) → (verdict_from start (after start a) ≡ verdict.Record n count extended) ↔ ((judged a).verdict ≡ verdict.Record n count extended)
+  pub record-moved : (a : Answer Record) (n count : ℕ) (extended : Bool) → (verdict_from start (after start a) ≡ Ok (record { length = n; count = count; extended = extended })) ↔ ((judged a).verdict ≡ Ok (record { length = n; count = count; extended = extended }))
   unfolding verdict_from after
   record-moved (ok q m) n count extended =
       let z : start + m - start ≡ m - 0 = omega arith in
@@ -147,7 +146,7 @@ module _ (start : ℕ) where
   record-moved short n count extended = (λ e. e, λ e. e)
   record-moved (bad k p) n count extended = (λ e. impossible (cc), λ e. impossible (cc))
 
-  pub short-moved : (a : Answer Record) → Numbered a → (verdict_from start (after start a) ≡ verdict.Refused Short) ↔ ((judged a).verdict ≡ verdict.Refused Short)
+  pub short-moved : (a : Answer Record) → Numbered a → (verdict_from start (after start a) ≡ Err Short) ↔ ((judged a).verdict ≡ Err Short)
   unfolding after
   short-moved a h = (
     λ e. read_short 0 a (moved-short a (short-read start (after start a) (numbered-moved a h) e)),
@@ -172,12 +171,12 @@ module _ (size : ℕ) where
   unfolding judged_whole
   whole-fits q n h = rw (le-ltb n size h) (ok-judged q n)
 
-  pub whole-left : (q : Record) (n : ℕ) → n < size → judged_whole size (ok q n) ≡ unjudged (verdict.Refused (LeftOver n))
+  pub whole-left : (q : Record) (n : ℕ) → n < size → judged_whole size (ok q n) ≡ unjudged (Err (LeftOver n))
   unfolding judged_whole
   whole-left q n h = rw (lt-ltb n size h)
 
   -- what judge refuses it refuses
-  pub whole-refused : (a : Answer Record) (refusal : Refusal) → (judged a).verdict ≡ verdict.Refused refusal → judged_whole size a ≡ judged a
+  pub whole-refused : (a : Answer Record) (refusal : Refusal) → (judged a).verdict ≡ Err refusal → judged_whole size a ≡ judged a
   unfolding judged_whole verdict_from
   whole-refused (ok q n) refusal e = impossible (cc)
   whole-refused short refusal e = refl
@@ -188,7 +187,7 @@ module _ (size : ℕ) where
   unfolding judged_whole verdict_from
   whole-read (ok q m) n x = go (ltb m size) refl x.accepted
     where
-      go : (t : Bool) → ltb m size ≡ t → (cond t (unjudged (verdict.Refused (LeftOver m))) (judged (ok q m))).verdict ≡ verdict.Record n x.count x.extended
+      go : (t : Bool) → ltb m size ≡ t → (cond t (unjudged (Err (LeftOver m))) (judged (ok q m))).verdict ≡ Ok (record { length = n; count = x.count; extended = x.extended })
           → (v : Record) × (ok q m ≡ ok v n) × (size ≤ n)
       go true h e = impossible (cc)
       go false h e =
@@ -199,11 +198,11 @@ module _ (size : ℕ) where
   whole-read (bad k p) n x = impossible (cc x.accepted)
 
   -- and bytes left over where reading took one that some byte follows
-  pub left-read : (a : Answer Record) → Numbered a → (p : ℕ) → (judged_whole size a).verdict ≡ verdict.Refused (LeftOver p) → (q : Record) × (a ≡ ok q p) × (p < size)
+  pub left-read : (a : Answer Record) → Numbered a → (p : ℕ) → (judged_whole size a).verdict ≡ Err (LeftOver p) → (q : Record) × (a ≡ ok q p) × (p < size)
   unfolding judged_whole verdict_from refusal_of
   left-read (ok q m) h p e = go (ltb m size) refl e
     where
-      go : (t : Bool) → ltb m size ≡ t → (cond t (unjudged (verdict.Refused (LeftOver m))) (judged (ok q m))).verdict ≡ verdict.Refused (LeftOver p) → (v : Record) × (ok q m ≡ ok v p) × (p < size)
+      go : (t : Bool) → ltb m size ≡ t → (cond t (unjudged (Err (LeftOver m))) (judged (ok q m))).verdict ≡ Err (LeftOver p) → (v : Record) × (ok q m ≡ ok v p) × (p < size)
       go true h x = let z : m ≡ p = cc in (q, ap (ok q) z, omega (arith, ltb-true m size h))
       go false h x = impossible (cc)
   left-read short h p e = impossible (cc)
@@ -212,12 +211,12 @@ module _ (size : ℕ) where
       absurd (omega (arith, bounds.1, (bad-refusal k i bounds.0 (omega (arith, bounds.1))).0, ap number_of (same-refusal e)))
 
   -- it says what judge may say, or bytes left over
-  pub whole-said : (a : Answer Record) → Numbered a → Sayable (judged_whole size a).verdict ⊎ ((p : ℕ) × ((judged_whole size a).verdict ≡ verdict.Refused (LeftOver p)))
+  pub whole-said : (a : Answer Record) → Numbered a → Sayable (judged_whole size a).verdict ⊎ ((p : ℕ) × ((judged_whole size a).verdict ≡ Err (LeftOver p)))
   unfolding judged_whole
   whole-said (ok q m) h = go (ltb m size)
     where
-      go : (t : Bool) → Sayable (cond t (unjudged (verdict.Refused (LeftOver m))) (judged (ok q m))).verdict
-          ⊎ ((p : ℕ) × ((cond t (unjudged (verdict.Refused (LeftOver m))) (judged (ok q m))).verdict ≡ verdict.Refused (LeftOver p)))
+      go : (t : Bool) → Sayable (cond t (unjudged (Err (LeftOver m))) (judged (ok q m))).verdict
+          ⊎ ((p : ℕ) × ((cond t (unjudged (Err (LeftOver m))) (judged (ok q m))).verdict ≡ Err (LeftOver p)))
       go true = inr (m, refl)
       go false = inl (all_said 0 (ok q m) h)
   whole-said short h = inl (all_said 0 short h)

@@ -1,6 +1,6 @@
 -- What the functions of reading hand out of a record that some bytes begin with, whatever follows it: for any answer that meets the promise.
 -- `judge` and `judge_whole` are in `Judging`.
-use Rattle.std.specs.Prelude.{◌≡◌, List, [], ℕ, ◌-◌, ◌≤◌, ◌<◌, get_or}
+use Rattle.std.specs.Prelude.{◌≡◌, List, [], ℕ, ◌-◌, ◌≤◌, ◌<◌, get_or, Result, Ok, Err, ⊤}
 use Rattle.std.proofs.Common.{◌∙◌, arith, length-drop}
 use Rattle.std.proofs.Math.Option.{none}
 use Rattle.std.proofs.Math.Nat.{sub-zero}
@@ -19,9 +19,6 @@ use Rattle.records.specs.Record.{full_record, IsRecord, extended_bytes}
 use Rattle.record_points.specs.Pointing.{pointed_at, places_in}
 use Rattle.record_parts.specs.Parts.{extended_place, extended_size, rest_place, rest_size}
 use Rattle.record_reading.specs.declared.Judged.{Judged}
-use Rattle.record_reading.specs.declared.Verdict.TheVariants as verdict
-use Rattle.record_points.specs.declared.Pointed.{Pointed}
-use Rattle.record_points.specs.declared.Pointed.TheVariants as pointed
 use Rattle.demands.specs.Promises as promises
 use Rattle.demands.specs.JudgingLaws.{record-is-read}
 use Rattle.demands.specs.ReadingLaws.{extended-handed, NothingIn, nothing-in}
@@ -51,7 +48,7 @@ module _ (s : Bor (List ℕ)) (n : ℕ) (within : n ≤ length s.now) (x : IsRec
 
   module _ (index : ℕ) (inside : index < length x.value.points) where
     -- judge_point says that there is a point of each index below the count
-    pub point-said : (r : Pointed) → promises.judge_point s.now index r → r ≡ pointed.Point
+    pub point-said : (r : Result ⊤ Refusal) → promises.judge_point s.now index r → r ≡ Ok tt
     unfolding pointed_at
     point-said r answers = answers ∙ rw (read, lt-ltb index (length x.value.points) inside)
 
@@ -63,7 +60,7 @@ module _ (s : Bor (List ℕ)) (n : ℕ) (within : n ≤ length s.now) (x : IsRec
 
   module _ (index : ℕ) (outside : length x.value.points ≤ index) where
     -- judge_point says 10 of every other index
-    pub no-point-said : (r : Pointed) → promises.judge_point s.now index r → r ≡ pointed.Refused NoPoint
+    pub no-point-said : (r : Result ⊤ Refusal) → promises.judge_point s.now index r → r ≡ Err NoPoint
     unfolding pointed_at
     no-point-said r answers = answers ∙ rw (read, le-ltb index (length x.value.points) outside)
 
@@ -73,7 +70,7 @@ module _ (s : Bor (List ℕ)) (n : ℕ) (within : n ≤ length s.now) (x : IsRec
     no-point-told r answers = answers ∙ rw (read, le-ltb index (length x.value.points) outside)
 
 -- judge refuses what is lent: nothing is handed out
-module _ (s : Bor (List ℕ)) (q : Judged) (judges : promises.judge s.now q) (refusal : Refusal) (refused : q.verdict ≡ verdict.Refused refusal) where
+module _ (s : Bor (List ℕ)) (q : Judged) (judges : promises.judge s.now q) (refusal : Refusal) (refused : q.verdict ≡ Err refusal) where
   nothing : NothingIn (run full_record s.now) refusal
   nothing = nothing-in (run full_record s.now) refusal (rw judges at refused)
 
@@ -85,7 +82,7 @@ module _ (s : Bor (List ℕ)) (q : Judged) (judges : promises.judge s.now q) (re
   refused-rest r part = rw (nothing.rest_at, nothing.rest_many (length s.now)) at part
 
   -- judge_point refuses alike, and point hands out sixteen absent places
-  pub refused-point-said : (index : ℕ) (r : Pointed) → promises.judge_point s.now index r → r ≡ pointed.Refused refusal
+  pub refused-point-said : (index : ℕ) (r : Result ⊤ Refusal) → promises.judge_point s.now index r → r ≡ Err refusal
   refused-point-said index r answers = answers ∙ nothing.said_of_points index
 
   pub refused-point-told : (index : ℕ) (r : List Place) → promises.point s.now index r → r ≡ nowhere

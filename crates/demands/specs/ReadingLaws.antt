@@ -1,5 +1,5 @@
 -- Where the parts of a record lie among its bytes, and how the numbers of its points stand in one row.
-use Rattle.std.specs.Prelude.{◌≡◌, refl, Bool, true, false, ℕ, suc, ◌+◌, ◌*◌, ◌-◌, ◌≤◌, ◌<◌, ℤ, pos, length, take, drop, get_or}
+use Rattle.std.specs.Prelude.{◌≡◌, refl, Bool, true, false, ℕ, suc, ◌+◌, ◌*◌, ◌-◌, ◌≤◌, ◌<◌, ℤ, pos, length, take, drop, get_or, Result, Err}
 use Rattle.std.proofs.Common.{sym, ap, ap₂, ◌∙◌, mul-le-mul_right, arith, length-append, length-drop, length-take-le, take-append-drop, drop_at, get_or-take, get_or-drop, ext_get_or}
 use mathlib.Core.List.{List, [], ◌∷◌, ◌++◌, append_assoc, flat_map, flatten}
 use Rattle.std.proofs.Math.Option.{Option, none, some}
@@ -21,8 +21,6 @@ use Rattle.records.specs.Record.{Record, header, opening_byte, encode_extended, 
 use Rattle.record_reading.specs.Verdict.{verdict_from, judged}
 use Rattle.record_points.specs.Pointing.{pointed_at, places_in}
 use Rattle.record_parts.specs.Parts.{extended_place, extended_size, rest_place, rest_size}
-use Rattle.record_reading.specs.declared.Verdict.TheVariants as verdict
-use Rattle.record_points.specs.declared.Pointed.TheVariants as pointed
 use Rattle.demands.specs.Promises as promises
 use Rattle.demands.specs.Saying.{numbers_in, numbers_of}
 use Rattle.demands.specs.JudgingLaws.{record-is-read}
@@ -114,13 +112,13 @@ pub record NothingIn (a : Answer Record) (refusal : Refusal) : Type 0 where
   pub extended_many : extended_size a ≡ 0
   pub rest_at : rest_place a ≡ 0
   pub rest_many : (many : ℕ) → rest_size many a ≡ 0
-  pub said_of_points : (index : ℕ) → pointed_at index a ≡ pointed.Refused refusal
+  pub said_of_points : (index : ℕ) → pointed_at index a ≡ Err refusal
   pub places_of_points : (index : ℕ) → places_in index a ≡ nowhere
 
-again : {x y : Refusal} → verdict.Refused x ≡ verdict.Refused y → pointed.Refused x ≡ pointed.Refused y
-again e = cc
+again : {A B : Type 0} {x y : Refusal} → ◌≡◌ {A = Result A Refusal} (Err x) (Err y) → ◌≡◌ {A = Result B Refusal} (Err x) (Err y)
+again {x} {y} e = let z : x ≡ y = cc in ap Err z
 
-pub nothing-in : (a : Answer Record) (refusal : Refusal) → (judged a).verdict ≡ verdict.Refused refusal → NothingIn a refusal
+pub nothing-in : (a : Answer Record) (refusal : Refusal) → (judged a).verdict ≡ Err refusal → NothingIn a refusal
 unfolding verdict_from extended_place extended_size rest_place rest_size pointed_at places_in
 nothing-in (ok v n) refusal e = impossible (cc)
 nothing-in short refusal e = record { extended_at = refl; extended_many = refl; rest_at = refl; rest_many = λ many. refl; said_of_points = λ index. again e; places_of_points = λ index. refl }

@@ -1,5 +1,5 @@
 -- What reading handed out of a record is what writing it wants: its description, its count, its numbers in one row and its extended data.
-use Rattle.std.specs.Prelude.{◌≡◌, refl, Bool, true, false, cond, ℕ, ◌+◌, ◌≤◌, ◌<◌, length, take, get_or}
+use Rattle.std.specs.Prelude.{◌≡◌, refl, Bool, true, false, cond, ℕ, ◌+◌, ◌≤◌, ◌<◌, length, take, get_or, Ok}
 use Rattle.std.proofs.Common.{sym, ap, ◌∙◌, arith}
 use mathlib.Core.List.{List, [], flatten}
 use Rattle.std.proofs.Math.Option.{none, some}
@@ -15,7 +15,7 @@ use Rattle.values.proofs.ValueLaws.{valid-sizes}
 use Rattle.channels.specs.Descriptors.{included, stored}
 use Rattle.records.specs.Record.{Record, full_record, IsRecord, present, extended_bytes}
 use Rattle.records.specs.Demands.{write-after-read}
-use Rattle.record_reading.specs.declared.Verdict.TheVariants as verdict
+use Rattle.record_reading.specs.Extents.{same_extent}
 use Rattle.record_reading.specs.declared.Judged.{Judged}
 use Rattle.demands.specs.Promises as promises
 use Rattle.demands.specs.Saying.{saying, numbers_in, numbers_of}
@@ -36,10 +36,10 @@ pub record Spoken (a : Answer Record) (d : Description) (n count : ℕ) (wanted 
   pub counted : count ≡ length value.points
   pub presence : wanted ≡ present value.extended
 
-pub spoken : (a : Answer Record) (q : Record) (n : ℕ) → a ≡ ok q n → (r : Judged) → r ≡ saying n q → (count : ℕ) (wanted : Bool) → r.verdict ≡ verdict.Record n count wanted → Spoken a r.description n count wanted
+pub spoken : (a : Answer Record) (q : Record) (n : ℕ) → a ≡ ok q n → (r : Judged) → r ≡ saying n q → (count : ℕ) (wanted : Bool) → r.verdict ≡ Ok (record { length = n; count = count; extended = wanted }) → Spoken a r.description n count wanted
 spoken a q n read r told count wanted said =
-    let same : verdict.Record n count wanted ≡ verdict.Record n (length q.points) (present q.extended) = sym said ∙ ap (λ x. x.verdict) told in
-    record { value = q; read = read; described = ap (λ x. x.description) told; counted = cc same; presence = cc same }
+    let same = same_extent (sym said ∙ ap (λ x. x.verdict) told) in
+    record { value = q; read = read; described = ap (λ x. x.description) told; counted = same.1; presence = same.2 }
 
 -- the record that judge spoke of
 pub record Meant (s : List ℕ) (r : Judged) (n count : ℕ) (wanted : Bool) : Type 0 where
@@ -50,7 +50,7 @@ pub record Meant (s : List ℕ) (r : Judged) (n count : ℕ) (wanted : Bool) : T
   pub counted : count ≡ length bytes.value.points
   pub presence : wanted ≡ present bytes.value.extended
 
-pub meant : (s : List ℕ) → Bytes s → (r : Judged) → promises.judge s r → (n count : ℕ) (wanted : Bool) → r.verdict ≡ verdict.Record n count wanted → Meant s r n count wanted
+pub meant : (s : List ℕ) → Bytes s → (r : Judged) → promises.judge s r → (n count : ℕ) (wanted : Bool) → r.verdict ≡ Ok (record { length = n; count = count; extended = wanted }) → Meant s r n count wanted
 meant s bytes r judges n count wanted said =
     let a = run full_record s in
     let taken = record-read a n (record { count = count; extended = wanted; accepted = ap (λ x. x.verdict) (sym judges) ∙ said }) in

@@ -1,5 +1,5 @@
 -- Reading and writing together, said of what the functions answer: what `write` wrote is read back, and what reading handed out is written as it stood.
-use Rattle.std.specs.Prelude.{◌≡◌, refl, Bool, cond, List, [], ◌++◌, ℕ, ◌*◌, ◌≤◌, ◌<◌, ℤ, length, take, drop}
+use Rattle.std.specs.Prelude.{◌≡◌, refl, Bool, cond, List, [], ◌++◌, ℕ, ◌*◌, ◌≤◌, ◌<◌, ℤ, length, take, drop, Ok, Result, Err, ⊤}
 use Rattle.std.proofs.Common.{sym, ◌∙◌, arith, length-append, length-take-le, take_at, drop_at}
 use Rattle.std.proofs.Math.Path.{ap}
 use Rattle.std.specs.Borrow.{Bor}
@@ -17,28 +17,24 @@ use Rattle.values.proofs.ValueLaws.{fits-valid, valid-sizes}
 use Rattle.channels.specs.Descriptors.{included, stored}
 use Rattle.records.specs.Record.{Record, full_record, encode, IsRecord}
 use Rattle.record_reading.specs.Verdict.{judged, judged_whole}
-use Rattle.record_reading.specs.declared.Verdict.TheVariants as verdict
 use Rattle.record_reading.specs.declared.Judged.{Judged}
-use Rattle.record_points.specs.declared.Pointed.{Pointed}
-use Rattle.record_points.specs.declared.Pointed.TheVariants as pointed
 use Rattle.record_writing.specs.Write.{record_in, write_of}
 use Rattle.record_writing.proofs.WriteLaws.{passes-valid}
 use Rattle.record_writing.proofs.RoundTrips as trips
 use Rattle.record_writing.proofs.RoundTrips.{Wrote}
-use Rattle.record_writing.specs.declared.Written.{Written}
-use Rattle.record_writing.specs.declared.Written.TheVariants as written
 use Rattle.demands.specs.Promises as promises
 use Rattle.demands.specs.Saying.{numbers_of}
 use Rattle.demands.specs.JudgingLaws.{read-judged, whole-fits}
 use Rattle.demands.specs.Reading.{rest-told, point-said, point-told, no-point-said, no-point-told}
 use Rattle.demands.specs.ReadingLaws.{extended-handed, numbers-at}
 use Rattle.demands.specs.RoundTripLaws.{extended-given, meant, in_a_row}
+use Rattle.refusals.specs.declared.Refusal.{Refusal}
 
 -- ---- Written, and read again
 
 -- write answered a record of n bytes, and s is the output, as reading is lent it. A description always has sixteen channels, and what is lent as extended data are bytes.
 module _ (d : Description) (sixteen : length d.channels ≡ 16) (count : ℕ) (values : List ℤ) (wanted : Bool) (extended : List ℕ) (lent : Bytes extended) (out : List ℕ)
-    (n : ℕ) (s : Bor (List ℕ)) (wrote : promises.write d count values wanted extended out (written.Record n) s.now) where
+    (n : ℕ) (s : Bor (List ℕ)) (wrote : promises.write d count values wanted extended out (Ok n) s.now) where
   abbrev asked : Record
   asked = record_in Point d count values wanted extended
 
@@ -60,11 +56,11 @@ module _ (d : Description) (sixteen : length d.channels ≡ 16) (count : ℕ) (v
   written-record = the-record
 
   -- judge says the length that write answered, and the count, the description and the presence of extended data that were given
-  pub written-judged : (r : Judged) → promises.judge s.now r → r ≡ record { verdict = verdict.Record n count wanted; description = d }
+  pub written-judged : (r : Judged) → promises.judge s.now r → r ≡ record { verdict = (Ok (record { length = n; count = count; extended = wanted })); description = d }
   written-judged r answers = answers ∙ trips.written-judged Point d count values wanted extended out sixteen lent (sym wrote)
 
   -- and so does judge_whole, of the record alone
-  pub written-judged-whole : (r : Judged) → promises.judge_whole (take n s.now) r → r ≡ record { verdict = verdict.Record n count wanted; description = d }
+  pub written-judged-whole : (r : Judged) → promises.judge_whole (take n s.now) r → r ≡ record { verdict = (Ok (record { length = n; count = count; extended = wanted })); description = d }
   written-judged-whole r answers =
       let read = trips.written_read Point d count values wanted extended out sixteen lent (sym wrote) in
       let size : length (take n s.now) ≡ n = length-take-le n s.now within in
@@ -81,7 +77,7 @@ module _ (d : Description) (sixteen : length d.channels ≡ 16) (count : ℕ) (v
     unfolding record_in
     amid = rw (points-many Point count (size (stored d)) values) inside
 
-    pub written-point-said : (r : Pointed) → promises.judge_point s.now index r → r ≡ pointed.Point
+    pub written-point-said : (r : Result ⊤ Refusal) → promises.judge_point s.now index r → r ≡ Ok tt
     written-point-said r answers = point-said s n within the-record index amid r answers
 
     pub written-point-told : (r : List Place) → promises.point s.now index r
@@ -98,7 +94,7 @@ module _ (d : Description) (sixteen : length d.channels ≡ 16) (count : ℕ) (v
     unfolding record_in
     behind = rw (points-many Point count (size (stored d)) values) outside
 
-    pub written-no-point-said : (r : Pointed) → promises.judge_point s.now index r → r ≡ pointed.Refused NoPoint
+    pub written-no-point-said : (r : Result ⊤ Refusal) → promises.judge_point s.now index r → r ≡ Err NoPoint
     written-no-point-said r answers = no-point-said s n within the-record index behind r answers
 
     pub written-no-point-told : (r : List Place) → promises.point s.now index r → r ≡ nowhere
@@ -117,13 +113,13 @@ module _ (d : Description) (sixteen : length d.channels ≡ 16) (count : ℕ) (v
 
 -- judge said a record of n bytes; point handed out the points that it counts, and extended a part of the bytes
 module _ (s : Bor (List ℕ)) (bytes : Bytes s.now)
-    (r : Judged) (judges : promises.judge s.now r) (n count : ℕ) (wanted : Bool) (said : r.verdict ≡ verdict.Record n count wanted)
+    (r : Judged) (judges : promises.judge s.now r) (n count : ℕ) (wanted : Bool) (said : r.verdict ≡ Ok (record { length = n; count = count; extended = wanted }))
     (points : ℕ → List Place) (pointed : (index : ℕ) → index < count → promises.point s.now index (points index))
     (extended : Bor (List ℕ)) (handed : promises.extended s extended) where
   -- write then answers the same length where there is room, and the output holds the bytes that were read, before what it held behind them
-  pub read-written : (out : List ℕ) → n ≤ length out → (answer : Written) (after : List ℕ)
+  pub read-written : (out : List ℕ) → n ≤ length out → (answer : Result ℕ Refusal) (after : List ℕ)
       → promises.write r.description count (numbers_of points count 0) wanted extended.now out answer after
-      → (answer ≡ written.Record n) × (after ≡ take n s.now ++ drop n out)
+      → (answer ≡ Ok n) × (after ≡ take n s.now ++ drop n out)
   unfolding values_of
   read-written out room answer after writes =
       let x = meant s.now bytes r judges n count wanted said in

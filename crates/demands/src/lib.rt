@@ -6,9 +6,8 @@
 ghost use Rattle.demands.specs.Promises as promises;
 
 use channels::{Description, Place};
-use record_points::Pointed;
-use record_reading::{Judged, Verdict};
-use record_writing::Written;
+use record_reading::{Extent, Judged};
+use refusals::Refusal;
 
 fn judge(bytes: &[u8]) -> Judged
     ensures { promises.judge bytes.now result }
@@ -16,7 +15,7 @@ fn judge(bytes: &[u8]) -> Judged
     record_reading::judge(bytes)
 }
 
-fn verdict_at(bytes: &[u8], start: usize) -> Verdict
+fn verdict_at(bytes: &[u8], start: usize) -> Result<Extent, Refusal>
     ensures { promises.verdict_at bytes.now start result }
 {
     record_reading::verdict_at(bytes, start)
@@ -28,7 +27,7 @@ fn judge_whole(bytes: &[u8]) -> Judged
     record_reading::judge_whole(bytes)
 }
 
-fn judge_point(bytes: &[u8], index: usize) -> Pointed
+fn judge_point(bytes: &[u8], index: usize) -> Result<(), Refusal>
     ensures { promises.judge_point bytes.now index result }
 {
     record_points::judge_point(bytes, index)
@@ -59,7 +58,7 @@ fn write(
     wanted: bool,
     extended: &[u8],
     out: &mut [u8],
-) -> Written
+) -> Result<usize, Refusal>
     ensures { promises.write description count values.now wanted extended.now out.old result out.new }
 {
     record_writing::write(description, count, values, wanted, extended, out)
@@ -72,7 +71,7 @@ fn write_columns(
     wanted: bool,
     extended: &[u8],
     out: &mut [u8],
-) -> Written
+) -> Result<usize, Refusal>
     ensures { promises.write_columns description count values.now wanted extended.now out.old result out.new }
 {
     record_writing::write_columns(description, count, values, wanted, extended, out)

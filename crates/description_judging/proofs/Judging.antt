@@ -1,4 +1,5 @@
 -- Facts of a description that is judged: a number that is zero; two tests that are made in one look; and a test of the sixteen channels, one at a time.
+use Rattle.std.specs.Prelude.{Ok}
 use mathlib.Core.Path.{◌≡◌, refl, sym, ap, ◌∙◌}
 use mathlib.Core.Bool.{Bool, true, false, not, cond, ◌&&◌, ◌||◌, and-false, and_assoc}
 use mathlib.Core.List.{List, [], ◌∷◌}
@@ -18,7 +19,6 @@ use mir.ValLaws.{to_z_pos}
 use Rattle.refusals.specs.Stages.{or_else}
 use Rattle.refusals.specs.Ranges.{first_misfit}
 use Rattle.refusals.proofs.RangeLaws.{joined}
-use Rattle.refusals.specs.declared.Judgement.TheVariants.{Passed}
 use Rattle.channels.specs.Channel.{signed_of}
 use Rattle.channels.specs.Stored.{offset, value_of, fits, between}
 use Rattle.channels.specs.declared.Attribute.{Attribute}
@@ -194,6 +194,6 @@ module _ (w : ℕ) (ds : List Descriptor) where
   unfolding numbers_from
   numbers-next i h = rw (add-one i, drop-cons ds i absent h) (joined (numbers_of w i (get_or ds i absent)) (numbers_from w (suc i) (drop (suc i) ds)))
 
-  pub numbers-none : (i : ℕ) → length ds ≤ i → first_misfit (numbers_from w i (drop i ds)) ≡ Passed
+  pub numbers-none : (i : ℕ) → length ds ≤ i → first_misfit (numbers_from w i (drop i ds)) ≡ Ok tt
   unfolding numbers_from first_misfit
   numbers-none i h = rw (drop_of_length-le ds {i = i} h)

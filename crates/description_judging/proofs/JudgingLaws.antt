@@ -1,5 +1,5 @@
 -- A description is passed where it is valid: its numbers are all in range exactly where `all_fit` says so.
-use Rattle.std.specs.Prelude.{◌≡◌, Bool, true, ◌&&◌, ℕ, suc, T, length}
+use Rattle.std.specs.Prelude.{◌≡◌, Bool, true, ◌&&◌, ℕ, suc, T, length, Ok, None}
 use Rattle.std.proofs.Math.Path.{refl}
 use Rattle.std.proofs.Common.{◌∙◌}
 use Rattle.std.proofs.Math.Bool.{false}
@@ -9,9 +9,7 @@ use Rattle.formats.specs.Bytes.{impossible}
 use Rattle.refusals.specs.Stages.{require, or_else, stages, require-passed, or-else-passed, stages-passed}
 use Rattle.refusals.specs.Ranges.{first_misfit}
 use Rattle.refusals.proofs.RangeLaws.{passed-fit, fit_passed, joined}
-use Rattle.refusals.specs.declared.Where.TheVariants.{Nowhere}
 use Rattle.refusals.specs.declared.Refusal.TheVariants.{XOrY, Untidy}
-use Rattle.refusals.specs.declared.Judgement.TheVariants as judgement
 use Rattle.channels.specs.Channel.{is_same, signed_of, width_of, same-is, is_same_lem}
 use Rattle.channels.specs.declared.Descriptor.{Descriptor}
 use Rattle.channels.specs.declared.Description.{Description}
@@ -38,7 +36,7 @@ all-five a b c d e h =
 
 -- of a descriptor
 module _ (w channel : ℕ) (d : Descriptor) where
-  of-passed : fits_descriptor w channel d ≡ true → first_misfit (numbers_of w channel d) ≡ judgement.Passed
+  of-passed : fits_descriptor w channel d ≡ true → first_misfit (numbers_of w channel d) ≡ Ok tt
   unfolding numbers_of fits_descriptor
   of-passed e =
       fit_passed
@@ -51,7 +49,7 @@ module _ (w channel : ℕ) (d : Descriptor) where
       (fits_attribute w false d.deviation)
       e)
 
-  of-fit : first_misfit (numbers_of w channel d) ≡ judgement.Passed → fits_descriptor w channel d ≡ true
+  of-fit : first_misfit (numbers_of w channel d) ≡ Ok tt → fits_descriptor w channel d ≡ true
   unfolding numbers_of fits_descriptor
   of-fit e =
       let x = passed-fit _ e in
@@ -59,14 +57,14 @@ module _ (w channel : ℕ) (d : Descriptor) where
 
 module _ (w : ℕ) where
   -- of the channels from i on
-  from-fit : (i : ℕ) (ds : List Descriptor) → first_misfit (numbers_from w i ds) ≡ judgement.Passed → every (fits_descriptor w) i ds ≡ true
+  from-fit : (i : ℕ) (ds : List Descriptor) → first_misfit (numbers_from w i ds) ≡ Ok tt → every (fits_descriptor w) i ds ≡ true
   unfolding numbers_from every
   from-fit i [] e = refl
   from-fit i (d ∷ ds) e =
       let x = or-else-passed (first_misfit (numbers_of w i d)) (first_misfit (numbers_from w (suc i) ds)) (rw (joined (numbers_of w i d) (numbers_from w (suc i) ds)) at e) in
       rw (of-fit w i d x.0) (from-fit (suc i) ds x.1)
 
-  from-passed : (i : ℕ) (ds : List Descriptor) → every (fits_descriptor w) i ds ≡ true → first_misfit (numbers_from w i ds) ≡ judgement.Passed
+  from-passed : (i : ℕ) (ds : List Descriptor) → every (fits_descriptor w) i ds ≡ true → first_misfit (numbers_from w i ds) ≡ Ok tt
   unfolding numbers_from every first_misfit or_else
   from-passed i [] e = refl
   from-passed i (d ∷ ds) e =
@@ -74,11 +72,11 @@ module _ (w : ℕ) where
       joined (numbers_of w i d) (numbers_from w (suc i) ds) ∙ rw (of-passed w i d x.0) (from-passed (suc i) ds x.1)
 
   -- no number is named exactly where all fit
-  pub none_named : (d : Description) → first_misfit (numbers w d) ≡ judgement.Passed → all_fit w d ≡ true
+  pub none_named : (d : Description) → first_misfit (numbers w d) ≡ Ok tt → all_fit w d ≡ true
   unfolding numbers all_fit
   none_named d e = from-fit 0 d.channels e
 
-  pub all_pass : (d : Description) → all_fit w d ≡ true → first_misfit (numbers w d) ≡ judgement.Passed
+  pub all_pass : (d : Description) → all_fit w d ≡ true → first_misfit (numbers w d) ≡ Ok tt
   unfolding numbers all_fit
   all_pass d e = from-passed 0 d.channels e
 
@@ -95,21 +93,21 @@ holds : {t : Bool} → t ≡ true → T t
 holds e = rw e tt
 
 module _ (format : Format) (d : Description) where
-  pub passed-sound : judgement_of format d ≡ judgement.Passed → Sound format d
+  pub passed-sound : judgement_of format d ≡ Ok tt → Sound format d
   unfolding judgement_of neat_in
   passed-sound e =
       let s = stages-passed _ e in
-      let named : require (includes_xy d) (XOrY Nowhere) ≡ judgement.Passed = cc in
-      let written : require (neat_in format d) Untidy ≡ judgement.Passed = cc in
-      let ranged : first_misfit (numbers (width_of format) d) ≡ judgement.Passed = cc in
+      let named : require (includes_xy d) (XOrY None) ≡ (Ok tt) = cc in
+      let written : require (neat_in format d) Untidy ≡ (Ok tt) = cc in
+      let ranged : first_misfit (numbers (width_of format) d) ≡ (Ok tt) = cc in
       let n = both (is_same d.mark format) (neat d) (require-passed _ _ written) in
       record { xy = holds (require-passed _ _ named); marked = same-is d.mark format n.0; neat = holds n.1; ranges = holds (none_named (width_of format) d ranged) }
 
   -- passed and sixteen channels: that is to be valid
-  pub passed-valid : judgement_of format d ≡ judgement.Passed → length d.channels ≡ 16 → Valid format d
+  pub passed-valid : judgement_of format d ≡ Ok tt → length d.channels ≡ 16 → Valid format d
   passed-valid e h = let s = passed-sound e in record { sixteen = h; xy = s.xy; marked = s.marked; tidy = tidy-marked format d s.marked s.neat s.ranges }
 
-  sound-passed : Sound format d → judgement_of format d ≡ judgement.Passed
+  sound-passed : Sound format d → judgement_of format d ≡ Ok tt
   unfolding judgement_of neat_in stages or_else require
   sound-passed s =
       rw (is_true (includes_xy d) s.xy, is_same_lem d.mark format s.marked, is_true (neat d) s.neat, all_pass (width_of format) d (is_true (all_fit (width_of format) d) s.ranges))
@@ -117,7 +115,7 @@ module _ (format : Format) (d : Description) where
   tidy-sound : T (includes_xy d) → d.mark ≡ format → T (tidy d) → Sound format d
   tidy-sound h e t = record { xy = h; marked = e; neat = tidy-neat d t; ranges = tidy-fits format d e t }
 
-  pub valid-passed : Valid format d → (judgement_of format d ≡ judgement.Passed) × (length d.channels ≡ 16)
+  pub valid-passed : Valid format d → (judgement_of format d ≡ Ok tt) × (length d.channels ≡ 16)
   valid-passed v = (sound-passed (tidy-sound v.xy v.marked v.tidy), v.sixteen)
 
 pub passes-tidy : PassesTidy

@@ -1,5 +1,5 @@
 -- The number that is named is the first out of its range: the stages before are passed, and a number whose flag is clear is in its range.
-use Rattle.std.specs.Prelude.{◌≡◌, refl, Bool, not, ◌||◌, length, get_or}
+use Rattle.std.specs.Prelude.{◌≡◌, refl, Bool, not, ◌||◌, length, get_or, Result, Ok, Err, None, ⊤}
 use Rattle.std.proofs.Common.{sym, ap, ◌∙◌, zero-add}
 use Rattle.std.proofs.Math.Bool.{true, false}
 use mathlib.Core.List.{List, [], ◌∷◌}
@@ -14,12 +14,9 @@ use Rattle.refusals.specs.Ranges.{Ranged, first_misfit}
 use Rattle.refusals.proofs.RangeLaws.{named-first, first-named, of-first}
 use Rattle.refusals.specs.declared.AttributeName.{AttributeName}
 use Rattle.refusals.specs.declared.AttributeName.TheVariants.{Scaling, Minimum, Maximum, Mean, Deviation}
-use Rattle.refusals.specs.declared.Where.TheVariants.{Nowhere}
 use Rattle.refusals.specs.declared.Quantity.{Quantity}
 use Rattle.refusals.specs.declared.Quantity.TheVariants as quantity
 use Rattle.refusals.specs.declared.Refusal.TheVariants.{XOrY, Untidy, OutOfRange}
-use Rattle.refusals.specs.declared.Judgement.{Judgement}
-use Rattle.refusals.specs.declared.Judgement.TheVariants.{Passed, Refused}
 use Rattle.channels.specs.Channel.{width_of}
 use Rattle.channels.specs.Descriptors.{absent}
 use Rattle.channels.specs.declared.Attribute.{Attribute}
@@ -29,6 +26,7 @@ use Rattle.channels.specs.declared.Format.{Format}
 use Rattle.descriptions.specs.Description.{includes_xy, fits_attribute}
 use Rattle.description_judging.specs.Judging.{numbers_of, numbers_from, numbers, neat_in, judgement_of}
 use Rattle.description_judging.specs.Naming.{NamesFirst, attribute_of, GivenAttribute, NamesGiven}
+use Rattle.refusals.specs.declared.Refusal.{Refusal}
 
 -- ---- The first
 
@@ -39,11 +37,11 @@ module _ (format : Format) (d : Description) where
   by-numbers xy neat = rw (is_true (includes_xy d) xy, is_true (neat_in format d) neat) (or-else-last (first_misfit (numbers (width_of format) d)))
 
   -- 4 and 11 name no number: of any other description 12 is not said, whatever is judged behind it
-  pub tidy-first : (next : Judgement) (name : Quantity) → or_else (judgement_of format d) next ≡ Refused (OutOfRange name) → T (includes_xy d) × T (neat_in format d)
+  pub tidy-first : (next : Result ⊤ Refusal) (name : Quantity) → or_else (judgement_of format d) next ≡ Err (OutOfRange name) → T (includes_xy d) × T (neat_in format d)
   unfolding judgement_of stages or_else require
   tidy-first next name e = go (includes_xy d) (neat_in format d) e
     where
-      go : (xy neat : Bool) → or_else (stages (require xy (XOrY Nowhere) ∷ require neat Untidy ∷ first_misfit (numbers (width_of format) d) ∷ [])) next ≡ Refused (OutOfRange name) → T xy × T neat
+      go : (xy neat : Bool) → or_else (stages (require xy (XOrY None) ∷ require neat Untidy ∷ first_misfit (numbers (width_of format) d) ∷ [])) next ≡ Err (OutOfRange name) → T xy × T neat
       go true true h = (tt, tt)
       go true false h = impossible (cc)
       go false neat h = impossible (cc)
@@ -51,7 +49,7 @@ module _ (format : Format) (d : Description) where
 pub names-first : NamesFirst
 names-first format d name =
     let w = width_of format in (
-      λ e. let x = tidy-first format d Passed name (or-else-last (judgement_of format d) ∙ sym e) in (x.0, (x.1, named-first (numbers w d) name (sym (e ∙ by-numbers format d x.0 x.1)))),
+      λ e. let x = tidy-first format d (Ok tt) name (or-else-last (judgement_of format d) ∙ sym e) in (x.0, (x.1, named-first (numbers w d) name (sym (e ∙ by-numbers format d x.0 x.1)))),
       λ h. sym (by-numbers format d h.0 h.1.0 ∙ first-named (numbers w d) name h.1.1),
     )
 

@@ -1,17 +1,16 @@
 -- Whether a channel description can be written; and which of its numbers is the first out of its range.
-use Rattle.std.specs.Prelude.{Bool, false, ◌&&◌, List, [], ◌∷◌, ◌++◌, ℕ, suc}
+use Rattle.std.specs.Prelude.{Bool, false, ◌&&◌, List, [], ◌∷◌, ◌++◌, ℕ, suc, Result, None, ⊤}
 use Rattle.refusals.specs.Stages.{require, stages}
 use Rattle.refusals.specs.Ranges.{Ranged, ◌fits_if◌, first_misfit}
 use Rattle.refusals.specs.declared.AttributeName.TheVariants.{Scaling, Minimum, Maximum, Mean, Deviation}
-use Rattle.refusals.specs.declared.Where.TheVariants.{Nowhere}
 use Rattle.refusals.specs.declared.Quantity.TheVariants.{Attribute}
 use Rattle.refusals.specs.declared.Refusal.TheVariants.{XOrY, Untidy}
-use Rattle.refusals.specs.declared.Judgement.{Judgement}
 use Rattle.channels.specs.Channel.{is_same, signed_of, width_of}
 use Rattle.channels.specs.declared.Descriptor.{Descriptor}
 use Rattle.channels.specs.declared.Description.{Description}
 use Rattle.channels.specs.declared.Format.{Format}
 use Rattle.descriptions.specs.Description.{includes_xy, neat, fits_attribute}
+use Rattle.refusals.specs.declared.Refusal.{Refusal}
 
 -- ---- Its numbers, in the order in which they are stored
 
@@ -40,5 +39,5 @@ unfoldable pub neat_in : Format → Description → Bool
 neat_in format d = is_same d.mark format && neat d
 
 -- stage by stage: the whole description is judged by one before the next
-unfoldable pub judgement_of : Format → Description → Judgement
-judgement_of format d = stages (require (includes_xy d) (XOrY Nowhere) ∷ require (neat_in format d) Untidy ∷ first_misfit (numbers (width_of format) d) ∷ [])
+unfoldable pub judgement_of : Format → Description → Result ⊤ Refusal
+judgement_of format d = stages (require (includes_xy d) (XOrY None) ∷ require (neat_in format d) Untidy ∷ first_misfit (numbers (width_of format) d) ∷ [])

@@ -1,12 +1,11 @@
 -- Which number refusal 12 names (request L2): what is claimed of a description that is judged.
-use Rattle.std.specs.Prelude.{◌≡◌, ◌↔◌, true, ℕ, ◌<◌, T, length, get_or}
+use Rattle.std.specs.Prelude.{◌≡◌, ◌↔◌, true, ℕ, ◌<◌, T, length, get_or, Err}
 use Rattle.refusals.specs.Ranges.{FirstOutside}
 use Rattle.refusals.specs.declared.AttributeName.{AttributeName}
 use Rattle.refusals.specs.declared.AttributeName.TheVariants.{Scaling, Minimum, Maximum, Mean, Deviation}
 use Rattle.refusals.specs.declared.Quantity.{Quantity}
 use Rattle.refusals.specs.declared.Quantity.TheVariants as quantity
 use Rattle.refusals.specs.declared.Refusal.TheVariants.{OutOfRange}
-use Rattle.refusals.specs.declared.Judgement.TheVariants.{Refused}
 use Rattle.channels.specs.Channel.{width_of}
 use Rattle.channels.specs.Descriptors.{absent}
 use Rattle.channels.specs.declared.Attribute.{Attribute}
@@ -18,7 +17,7 @@ use Rattle.description_judging.specs.Judging.{numbers, neat_in, judgement_of}
 
 -- judge names this number: its promise, where the answer is 12
 abbrev pub Names : Format → Description → Quantity → Type 0
-Names format d name = Refused (OutOfRange name) ≡ judgement_of format d
+Names format d name = Err (OutOfRange name) ≡ judgement_of format d
 
 -- ---- The claims
 

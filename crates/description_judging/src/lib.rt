@@ -1,18 +1,17 @@
 // Channel descriptions that are to be written: whether they can be, at two widths.
 #![tactic(auto)]
 
-ghost use Rattle.std.specs.Prelude.{◌≡◌, Bool, ◌&&◌, ℕ, ◌-◌, ◌^◌, T};
+ghost use Rattle.std.specs.Prelude.{◌≡◌, Bool, ◌&&◌, ℕ, ◌-◌, ◌^◌, T, Err};
 ghost use Rattle.channels.specs.Channel.{signed_of, width_of};
 ghost use Rattle.channels.specs.Stored.{value_of};
 ghost use Rattle.descriptions.specs.Description.{includes_xy, tidy_attribute, flagless, tidy_descriptor, neat, fits_attribute, fits_descriptor, all_fit};
 ghost use Rattle.refusals.specs.Ranges.{first_misfit};
 ghost use Rattle.refusals.specs.declared.Quantity.TheVariants as quantity;
 ghost use Rattle.refusals.specs.declared.Refusal.TheVariants.{OutOfRange};
-ghost use Rattle.refusals.specs.declared.Judgement.TheVariants.{Refused};
 ghost use Rattle.description_judging.specs.Judging.{numbers_of, numbers, judgement_of};
 
 use channels::{Attribute, Description, Descriptor, Format};
-use refusals::{AttributeName, Judgement, Quantity, Refusal, Where};
+use refusals::{AttributeName, Quantity, Refusal};
 
 // X and Y are in each record.
 fn has_x_and_y(description: Description) -> bool
@@ -59,15 +58,7 @@ fn tidy_descriptor(d: Descriptor) -> bool
 fn is_neat(description: Description) -> bool
     ensures { result ≡ neat description }
 {
-    let mut i: usize = 0;
-    while i < 16 {
-        let d = description.channels[i];
-        if !tidy_descriptor(d) {
-            return false;
-        }
-        i += 1;
-    }
-    true
+    description.channels.iter().all(|d| tidy_descriptor(*d))
 }
 
 // The largest number that is stored.
@@ -110,23 +101,20 @@ fn is_sound(description: Description, format: Format) -> bool
     ensures { result ≡ (neat description && all_fit (width_of format) description) }
 {
     let mut signs = channels::signs();
-    let mut i: usize = 0;
-    while i < 16 {
-        let d = description.channels[i];
-        if !sound_descriptor(d, format, channels::leads(signs)) {
+    for d in &description.channels {
+        if !sound_descriptor(*d, format, channels::leads(signs)) {
             return false;
         }
         signs = channels::behind_first(signs);
-        i += 1;
     }
     true
 }
 
 // A number of a channel is out of its range (refusal 12).
-fn outside(channel: usize, name: AttributeName) -> Judgement
-    ensures { result ≡ Refused (OutOfRange (quantity.Attribute channel name)) }
+fn outside(channel: usize, name: AttributeName) -> Result<(), Refusal>
+    ensures { result ≡ Err (OutOfRange (quantity.Attribute channel name)) }
 {
-    Judgement::Refused(Refusal::OutOfRange {
+    Err(Refusal::OutOfRange {
         quantity: Quantity::Attribute {
             channel: channel,
             name: name,
@@ -135,7 +123,7 @@ fn outside(channel: usize, name: AttributeName) -> Judgement
 }
 
 // The first number of a tidy descriptor that is out of its range, scaling to deviation. The check is the same: of a tidy attribute it says whether it fits.
-fn judge_numbers(d: Descriptor, channel: usize, format: Format) -> Judgement
+fn judge_numbers(d: Descriptor, channel: usize, format: Format) -> Result<(), Refusal>
     requires { T (tidy_descriptor d) }
     ensures { result ≡ first_misfit (numbers_of (width_of format) channel d) }
 {
@@ -158,47 +146,39 @@ fn judge_numbers(d: Descriptor, channel: usize, format: Format) -> Judgement
     if !sound_attribute(d.deviation, 0, largest as i32) {
         return outside(channel, AttributeName::Deviation);
     }
-    Judgement::Passed
+    Ok(())
 }
 
 // The first number of a neat description that is out of its range, channel after channel.
-fn first_misfit(description: Description, format: Format) -> Judgement
+fn first_misfit(description: Description, format: Format) -> Result<(), Refusal>
     requires { T (neat description) }
     ensures { result ≡ first_misfit (numbers (width_of format) description) }
 {
-    let mut i: usize = 0;
-    while i < 16 {
-        let d = description.channels[i];
-        let judged = judge_numbers(d, i, format);
-        if let Judgement::Refused(_) = judged {
-            return judged;
-        }
-        i += 1;
+    for (channel, d) in description.channels.iter().enumerate() {
+        judge_numbers(*d, channel, format)?;
     }
-    Judgement::Passed
+    Ok(())
 }
 
 // Whether a description can be written in a format: refusals 4, 11 and 12 of document 01, stage by stage, so that an untidy R comes before
 // a number of X that is out of range. A description of the other format is refused with 11, whatever it says (request L4).
-pub fn judge(description: Description, format: Format) -> Judgement
+pub fn judge(description: Description, format: Format) -> Result<(), Refusal>
     ensures { result ≡ judgement_of format description }
 {
     let sound = is_sound(description, format);
     if !has_x_and_y(description) {
-        return Judgement::Refused(Refusal::XOrY {
-            place: Where::Nowhere,
-        });
+        return Err(Refusal::XOrY { place: None });
     }
     let mark = description.mark;
     if !channels::is_same(mark, format) {
-        return Judgement::Refused(Refusal::Untidy); // even where every number would fit
+        return Err(Refusal::Untidy); // even where every number would fit
     }
     if sound {
-        return Judgement::Passed;
+        return Ok(());
     }
     // Only here is it asked which of the two it is, and which number.
     if !is_neat(description) {
-        return Judgement::Refused(Refusal::Untidy); // whatever its numbers are
+        return Err(Refusal::Untidy); // whatever its numbers are
     }
     first_misfit(description, format)
 }

@@ -12,7 +12,7 @@ ghost use Rattle.descriptions.specs.Description.{fits_attribute, fits_descriptor
 ghost use Rattle.description_writing.specs.Write.{put_room, put_if};
 
 use channels::{Attribute, Description, Descriptor, Format};
-use refusals::{Judgement, Refusal};
+use refusals::Refusal;
 
 // How many bytes an attribute has, whatever its sign.
 fn attribute_size(attribute: Attribute, format: Format) -> usize
@@ -45,11 +45,8 @@ pub fn size(description: Description, format: Format) -> usize
     ensures { result ≡ length (encode_description (width_of format) description) }
 {
     let mut total: usize = 2;
-    let mut i: usize = 0;
-    while i < 16 {
-        let d = description.channels[i];
-        total += channel_size(d, format);
-        i += 1;
+    for d in &description.channels {
+        total += channel_size(*d, format);
     }
     total
 }
@@ -80,11 +77,8 @@ fn inclusion(description: Description) -> u16
     ensures { result ≡ binary (included description) }
 {
     let mut bits: u16 = 0;
-    let mut i: usize = 0;
-    while i < 16 {
-        let d = description.channels[i];
+    for d in description.channels {
         bits = bits * 2 + weight(d.included, 1);
-        i += 1;
     }
     bits
 }
@@ -151,21 +145,11 @@ fn put_description(out: &mut [u8], start: usize, description: Description, forma
     let full = Format::Full;
     let mut signs = channels::signs();
     let mut at = stored_numbers::put_number(out, start, inclusion(description), full);
-    let mut i: usize = 0;
-    while i < 16 {
-        let d = description.channels[i];
-        at = put_channel(out, at, d, channels::leads(signs), format);
+    for d in &description.channels {
+        at = put_channel(out, at, *d, channels::leads(signs), format);
         signs = channels::behind_first(signs);
-        i += 1;
     }
     at
-}
-
-// What became of a description that was to be written.
-#[derive(Clone, Copy)]
-pub enum Written {
-    Done(usize), // where it ends
-    Refused(Refusal),
 }
 
 // No description is longer: two inclusion bytes, and of each channel its byte, two of scaling and four attributes.
@@ -186,27 +170,34 @@ fn has_room(room: usize, description: Description, format: Format) -> bool
 }
 
 // The room is looked at before a byte is put.
-fn put_where_room(out: &mut [u8], start: usize, description: Description, format: Format) -> Written
+fn put_where_room(
+    out: &mut [u8],
+    start: usize,
+    description: Description,
+    format: Format,
+) -> Result<usize, Refusal>
     requires { T (all_fit (width_of format) description) }
     ensures { writing result out.new ≡ put_room out.old start (encode_description (width_of format) description) }
 {
     if out.len() < start {
-        return Written::Refused(Refusal::Room);
+        return Err(Refusal::Room);
     }
     if !has_room(out.len() - start, description, format) {
-        return Written::Refused(Refusal::Room);
+        return Err(Refusal::Room);
     }
     let end = put_description(out, start, description, format);
-    Written::Done(end)
+    Ok(end)
 }
 
 // The description is written from a place of the output on; where it is refused or there is no room, nothing is.
-pub fn put(out: &mut [u8], start: usize, description: Description, format: Format) -> Written
+pub fn put(
+    out: &mut [u8],
+    start: usize,
+    description: Description,
+    format: Format,
+) -> Result<usize, Refusal>
     ensures { writing result out.new ≡ put_if format description out.old start }
 {
-    let judged = description_judging::judge(description, format);
-    if let Judgement::Refused(refusal) = judged {
-        return Written::Refused(refusal);
-    }
+    description_judging::judge(description, format)?;
     put_where_room(out, start, description, format)
 }

@@ -1,4 +1,5 @@
 -- Where a descriptor ends and whether it is stored, whatever its numbers are: by its byte alone.
+use Rattle.std.specs.Prelude.{Ok}
 use mathlib.Core.Path.{◌≡◌, refl, sym, ap, ◌∙◌}
 use mathlib.Core.Bool.{Bool, true, false, not, cond}
 use mathlib.Core.Logic.{by_cases}
@@ -23,7 +24,6 @@ use Rattle.channels.specs.Stored.{value_of}
 use Rattle.channels.specs.declared.Attribute.{Attribute}
 use Rattle.channels.specs.declared.Descriptor.{Descriptor}
 use Rattle.formats.specs.declared.Failure.TheVariants.{Short}
-use Rattle.formats.specs.declared.Outcome.TheVariants.{Done}
 use Rattle.channels.specs.Descriptors.{is_stored}
 use Rattle.descriptions.specs.Description.{announced, reserved, attribute, descriptor}
 use Rattle.descriptions.specs.Read.{attributes_size, descriptor_size}
@@ -114,21 +114,21 @@ module _ (w channel : ℕ) (s : List ℕ) (at : ℕ) where
     pub there : at + descriptor_size w (get_or s at 0) ≤ length s
     pub end : n ≡ at + descriptor_size w (get_or s at 0)
 
-  byte-there : {n : ℕ} → Done n ≡ told (read_at (descriptor w channel) s at) → at < length s
+  byte-there : {n : ℕ} → Ok n ≡ told (read_at (descriptor w channel) s at) → at < length s
   unfolding told
   byte-there e = by_cases (dec_lt at (length s)) (λ h. h) (λ h. let z = e ∙ ap told (descriptor-out w channel s at (omega arith)) in impossible (cc))
 
-  byte-admitted : {n : ℕ} → Done n ≡ told (read_at (descriptor w channel) s at) → (t : Bool) → reserved.holds (get_or s at 0) ≡ t → reserved.holds (get_or s at 0) ≡ true
+  byte-admitted : {n : ℕ} → Ok n ≡ told (read_at (descriptor w channel) s at) → (t : Bool) → reserved.holds (get_or s at 0) ≡ t → reserved.holds (get_or s at 0) ≡ true
   unfolding told
   byte-admitted e true q = q
   byte-admitted e false q = let z = e ∙ ap told (descriptor-refused w channel s at (byte-there e) q) in impossible (cc)
 
-  pub descriptor-whole : {n : ℕ} → Done n ≡ told (read_at (descriptor w channel) s at) → Whole n
+  pub descriptor-whole : {n : ℕ} → Ok n ≡ told (read_at (descriptor w channel) s at) → Whole n
   unfolding told
   descriptor-whole {n} e =
       let h = byte-there e in
       let q = byte-admitted e (reserved.holds (get_or s at 0)) refl in
-      let f : Done n ≡ told (mapped flags (read_at (descriptor w channel) s at)) = e ∙ sym (told-mapped flags (read_at (descriptor w channel) s at)) in
+      let f : Ok n ≡ told (mapped flags (read_at (descriptor w channel) s at)) = e ∙ sym (told-mapped flags (read_at (descriptor w channel) s at)) in
       by_cases
       (dec_lt (length s) (at + descriptor_size w (get_or s at 0)))
       (λ g. let z = f ∙ ap told (descriptor-cut w channel s at h q g) in impossible (cc))

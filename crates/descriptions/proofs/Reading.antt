@@ -1,5 +1,6 @@
 -- What a loop over the channels has of a description when it has gone through some of them, and what the whole answers from there:
 -- one account for the loop that reads descriptors and for the one that only measures them.
+use Rattle.std.specs.Prelude.{Result, Ok, Err}
 use mathlib.Core.Path.{◌≡◌, refl, sym, ap, ◌∙◌}
 use mathlib.Core.Bool.{Bool, true, false}
 use mathlib.Core.List.{List, [], ◌∷◌, ◌++◌}
@@ -12,18 +13,16 @@ use lib.Seq.{get_or-set_other, take-suc, take-suc-set}
 use Rattle.formats.specs.Reader.{Reader, Answer, ok, mapped, read_at, each}
 use Rattle.formats.specs.Compose.{at_done, at_map}
 use Rattle.formats.specs.Gathered.{Gathered, gathered_none, gathered-more, gathered-failed, gathered-all}
-use Rattle.formats.specs.Told.{told, failed, mapped-failed, told-failed}
+use Rattle.formats.specs.Told.{told, failed, answered, mapped-failed, told-failed}
 use Rattle.formats.specs.declared.Failure.{Failure}
-use Rattle.formats.specs.declared.Failure.TheVariants.{Short, Bad}
-use Rattle.formats.specs.declared.Outcome.{Outcome}
-use Rattle.formats.specs.declared.Outcome.TheVariants.{Done, Failed}
 use Rattle.channels.specs.Channel.{channels, width_of, nth-channel}
 use Rattle.channels.specs.declared.Descriptor.{Descriptor}
 use Rattle.channels.specs.declared.Description.{Description}
 use Rattle.channels.specs.declared.Format.{Format}
 use Rattle.channels.specs.Descriptors.{absent, is_stored}
 use Rattle.descriptions.specs.Description.{descriptor, includes, channel_of}
-use Rattle.descriptions.specs.Read.{described, ended, behind, channels_from}
+use Rattle.descriptions.specs.Read.{described, measured, behind, channels_from}
+use Rattle.descriptions.specs.declared.Inclusion.{Inclusion}
 
 -- ---- Lists
 
@@ -54,12 +53,6 @@ unset-all n channel i h = go n i
     go (suc n) (suc i) = go n i
 
 -- ---- The channels that were gone through
-
--- where there is no description
-failed-described : (format : Format) (x : Answer Description) {o : Outcome} (f : Failure) → o ≡ Failed f → x ≡ failed f → ended format o ≡ described format x
-unfolding described
-failed-described format x Short h e = ap (ended format) h ∙ sym (ap (described format) e)
-failed-described format x (Bad k p) h e = ap (ended format) h ∙ sym (ap (described format) e)
 
 module _ (format : Format) (inclusion : ℕ) (s : List ℕ) (start : ℕ) where
   abbrev w : ℕ
@@ -115,20 +108,27 @@ module _ (format : Format) (inclusion : ℕ) (s : List ℕ) (start : ℕ) where
       }
 
       -- where a descriptor fails, the whole does
-      pub gone-failed : includes inclusion channel ≡ true → {o : Outcome} {f : Failure} → o ≡ Failed f → o ≡ told (read_at (descriptor w channel) s at)
-          → ended format o ≡ described format (read_at (channels_from format inclusion) s start)
+      pub gone-failed : includes inclusion channel ≡ true → {f : Failure} → Err f ≡ told (read_at (descriptor w channel) s at)
+          → read_at (channels_from format inclusion) s start ≡ failed f
       unfolding channels_from
-      gone-failed e {f = f} q z =
-          failed-described format _ f q
-          (at_map _ _ s start
-          ∙ ap (mapped _) (gathered-failed channels _ s start 0 ds channel at h g.gathered f (with-descriptor e ∙ told-failed _ (sym q ∙ z)))
-          ∙ mapped-failed _ f)
+      gone-failed e {f} z =
+          at_map _ _ s start
+          ∙ ap (mapped _) (gathered-failed channels _ s start 0 ds channel at h g.gathered f (with-descriptor e ∙ told-failed _ z))
+          ∙ mapped-failed _ f
 
-    pub gone-all : 16 ≤ channel → record { outcome = Done at; included = included; stored = stored; description = record { channels = ds; mark = format } } ≡ described format (read_at (channels_from format inclusion) s start)
-    unfolding channels_from mapped described
-    gone-all h =
-        rw (g.included-same, g.stored_same)
-        (sym (ap (described format) (at_map _ _ s start ∙ ap (mapped _) (gathered-all channels _ s start ds channel at h (omega (arith, g.sixteen)) g.gathered))))
+    module _ (h : 16 ≤ channel) where
+      all-gone : read_at (channels_from format inclusion) s start ≡ ok (record { channels = ds; mark = format }) at
+      unfolding channels_from mapped
+      all-gone = at_map _ _ s start ∙ ap (mapped _) (gathered-all channels _ s start ds channel at h (omega (arith, g.sixteen)) g.gathered)
+
+      module _ {x : Answer Description} (e : x ≡ read_at (channels_from format inclusion) s start) where
+        pub gone-described : Ok (record { end = at; included = included; stored = stored; description = record { channels = ds; mark = format } }) ≡ described x
+        unfolding answered
+        gone-described = rw (g.included-same, g.stored_same) (sym (ap described (e ∙ all-gone)))
+
+        pub gone-measured : Ok (record { end = at; included = included; stored = stored }) ≡ measured x
+        unfolding answered
+        gone-measured = rw (g.included-same, g.stored_same) (sym (ap measured (e ∙ all-gone)))
 
   -- channels that aren't included leave all as it is
   pub gone-out : (left : ℕ) (ds : List Descriptor) (included stored : List Bool) (channel at : ℕ) → channel + left ≡ 16
@@ -140,11 +140,11 @@ module _ (format : Format) (inclusion : ℕ) (s : List ℕ) (start : ℕ) where
 
 -- ---- Behind the inclusion bytes
 
-module _ (next : ℕ → Answer Description) {x : Answer Description} {o : Outcome} where
-  pub behind-done : {n : ℕ} → o ≡ Done n → x ≡ behind next o → x ≡ next n
+module _ (next : Inclusion → Answer Description) {x : Answer Description} {r : Result Inclusion Failure} where
+  pub behind-done : {i : Inclusion} → r ≡ Ok i → x ≡ behind next r → x ≡ next i
   unfolding behind
   behind-done h e = e ∙ ap (behind next) h
 
-  pub behind-failed : (format : Format) {f : Failure} → o ≡ Failed f → x ≡ behind next o → ended format o ≡ described format x
+  pub behind-failed : {f : Failure} → r ≡ Err f → x ≡ behind next r → x ≡ failed f
   unfolding behind
-  behind-failed format {f} h e = failed-described format x f h (e ∙ ap (behind next) h)
+  behind-failed h e = e ∙ ap (behind next) h

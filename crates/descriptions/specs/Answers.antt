@@ -9,8 +9,8 @@ use Rattle.descriptions.specs.Read.{nothing, described, measured}
 pub one-nothing : (format : Format) → OneAnswer (λ r. r ≡ nothing format)
 one-nothing format = named
 
-pub one-described : (s : List ℕ) (start : ℕ) (format : Format) → OneAnswer (λ r. r ≡ described format (read_at (description format) s start))
+pub one-described : (s : List ℕ) (start : ℕ) (format : Format) → OneAnswer (λ r. r ≡ described (read_at (description format) s start))
 one-described s start format = named
 
-pub one-measured : (s : List ℕ) (start : ℕ) (format : Format) → OneAnswer (λ r. r ≡ measured format (read_at (description format) s start))
+pub one-measured : (s : List ℕ) (start : ℕ) (format : Format) → OneAnswer (λ r. r ≡ measured (read_at (description format) s start))
 one-measured s start format = named

@@ -1,15 +1,11 @@
 -- What the code that reads a description answers.
-use Rattle.std.specs.Prelude.{◌≡◌, Bool, false, cond, ℕ, ◌+◌, ℤ, replicate}
+use Rattle.std.specs.Prelude.{◌≡◌, Bool, cond, List, ℕ, ◌+◌, ℤ, replicate, Result, Ok, Err}
 use Rattle.std.proofs.Math.Path.{refl, ap}
-use Rattle.std.proofs.Common.{sym, ◌∙◌}
-use Rattle.formats.specs.Reader.{Reader, Answer, ok, short, bad, map, each}
+use Rattle.formats.specs.Reader.{Reader, Answer, ok, short, bad, read_at, map, each}
+use Rattle.formats.specs.Told.{failed, answered, answered-done, answered-failed, failed-answered}
 use Rattle.formats.specs.Bytes.{impossible}
-use Rattle.formats.specs.Told.{told, failed, told-failed}
 use Rattle.formats.specs.Binary.{bit}
 use Rattle.formats.specs.declared.Failure.{Failure}
-use Rattle.formats.specs.declared.Failure.TheVariants.{Short, Bad}
-use Rattle.formats.specs.declared.Outcome.{Outcome}
-use Rattle.formats.specs.declared.Outcome.TheVariants.{Done, Failed}
 use Rattle.channels.specs.Channel.{channels, width_of}
 use Rattle.channels.specs.Stored.{value_of}
 use Rattle.channels.specs.declared.Description.{Description}
@@ -24,56 +20,50 @@ use Rattle.descriptions.specs.declared.Measured.{Measured}
 unfoldable pub nothing : Format → Description
 nothing format = record { channels = replicate 16 absent; mark = format }
 
--- how it ended, where there is no description
-abbrev pub ended : Format → Outcome → Described
-ended format o = record { outcome = o; included = replicate 16 false; stored = replicate 16 false; description = nothing format }
+-- the description, of each channel whether it is included and whether a sample point holds a number of it, and where it ends
+abbrev pub described_to : Description → ℕ → Described
+described_to d n = record { end = n; included = included d; stored = stored d; description = d }
 
--- how it ended, of each channel whether it is included and whether a sample point holds a number of it, and the description where there is one
-unfoldable pub described : Format → Answer Description → Described
-described format (ok d n) = record { outcome = Done n; included = included d; stored = stored d; description = d }
-described format short = ended format (Failed Short)
-described format (bad k p) = ended format (Failed (Bad k p))
+abbrev pub described : Answer Description → Result Described Failure
+described x = answered described_to x
 
--- the same without the description, and where there is none
-abbrev pub unmeasured : Outcome → Measured
-unmeasured o = record { outcome = o; included = replicate 16 false; stored = replicate 16 false }
-
+-- the same without the description
 abbrev pub undescribed : Described → Measured
-undescribed d = record { outcome = d.outcome; included = d.included; stored = d.stored }
+undescribed d = record { end = d.end; included = d.included; stored = d.stored }
 
-unfoldable pub measured : Format → Answer Description → Measured
-measured format x = undescribed (described format x)
+abbrev pub measured : Answer Description → Result Measured Failure
+measured x = answered (λ d n. undescribed (described_to d n)) x
 
 -- what was described, taken back to the answer
-module _ (format : Format) where
-  outcome-told : (x : Answer Description) → (described format x).outcome ≡ told x
-  unfolding described told
-  outcome-told (ok d n) = refl
-  outcome-told short = refl
-  outcome-told (bad k p) = refl
+pub described-done : (x : Answer Description) {d : Described} → described x ≡ Ok d → (x ≡ ok d.description d.end) × (d ≡ described_to d.description d.end)
+described-done x {d} e = let a = answered-done described_to x e in rw (← a.3) (a.2, refl)
 
-  pub described-done : (x : Answer Description) {n : ℕ} → (described format x).outcome ≡ Done n → x ≡ ok (described format x).description n
-  unfolding described
-  described-done (ok d m) e = ap (ok d) (cc)
-  described-done short e = impossible (cc)
-  described-done (bad k p) e = impossible (cc)
+pub described-failed : (x : Answer Description) {f : Failure} → described x ≡ Err f → x ≡ failed f
+described-failed x e = answered-failed described_to x e
 
-  pub described-failed : (x : Answer Description) {f : Failure} → (described format x).outcome ≡ Failed f → x ≡ failed f
-  described-failed x e = told-failed x (sym e ∙ outcome-told x)
+-- what was described, measured
+pub measured-done : (x : Answer Description) {e : Described} → described x ≡ Ok e → measured x ≡ Ok (undescribed e)
+unfolding answered
+measured-done (ok d n) {e} q = let z : described_to d n ≡ e = cc in ap (λ x. Ok (undescribed x)) z
+measured-done short e = impossible (cc)
+measured-done (bad k p) e = impossible (cc)
+
+pub measured-failed : (x : Answer Description) {f : Failure} → described x ≡ Err f → measured x ≡ Err f
+measured-failed x {f} e = failed-answered _ f (described-failed x e)
 
 -- ---- What its parts answer
 
-abbrev pub no_inclusion : Failure → Inclusion
-no_inclusion f = record { outcome = Failed f; bits = 0 }
-
 -- what is read behind a part, by how that ended
-unfoldable pub behind : {A : Type 0} → (ℕ → Answer A) → Outcome → Answer A
-behind next (Done n) = next n
-behind next (Failed f) = failed f
+unfoldable pub behind : {A B : Type 0} → (B → Answer A) → Result B Failure → Answer A
+behind next (Ok v) = next v
+behind next (Err f) = failed f
 
 -- the descriptors, behind the inclusion bytes
 unfoldable pub channels_from : Format → (inclusion : ℕ) → Reader Description
 channels_from format inclusion = map (λ ds. record { channels = ds; mark = format }) (each channels (channel_of (width_of format) inclusion))
+
+abbrev pub channels_behind : Format → List ℕ → Inclusion → Answer Description
+channels_behind format s i = read_at (channels_from format i.bits) s i.end
 
 -- the number that is stored as 0, with a sign or without
 abbrev pub Least : (w : ℕ) → ℤ → Type 0

@@ -7,7 +7,7 @@ ghost use Rattle.doubles.specs.Reading.{told, reading, place_reading};
 ghost use Rattle.double_costs.specs.Handed.{handed_reading, scaling_from};
 
 use channels::{Attribute, Place};
-use doubles::{PlaceReading, Reading};
+use refusals::Refusal;
 
 // A reading: 0 and the double, or the refusal's number.
 #[repr(C)]
@@ -17,15 +17,15 @@ pub struct Read {
     pub double: f64,
 }
 
-fn read_of(reading: Reading) -> Read
+fn read_of(reading: Result<f64, Refusal>) -> Read
     ensures { result ≡ handed_reading (told reading) }
 {
     match reading {
-        Reading::Double(x) => Read {
+        Ok(x) => Read {
             number: 0,
             double: x,
         },
-        Reading::Refused(refusal) => Read {
+        Err(refusal) => Read {
             number: refusals::number(refusal) as u64,
             double: 0.0,
         },
@@ -49,10 +49,10 @@ pub extern "C" fn costs_double_place(value: i32, given: bool, number: i32) -> Re
         number: number,
     };
     match doubles::place_double(Place::Number(value), scaling) {
-        PlaceReading::Absent => Read {
+        None => Read {
             number: 1,
             double: 0.0,
         },
-        PlaceReading::Present(present) => read_of(present),
+        Some(present) => read_of(present),
     }
 }

@@ -1,11 +1,9 @@
 -- What is promised of a double that is answered holds, and for every F no other double could be answered; it is a number, so that its bits may be asked for.
-use Rattle.std.specs.Prelude.{◌≡◌, refl, not, ℕ, ◌+◌, ◌*◌, ◌^◌, ◌<◌, T, ℤ, pos, ◌*ℤ◌, Float}
+use Rattle.std.specs.Prelude.{◌≡◌, refl, not, ℕ, ◌+◌, ◌*◌, ◌^◌, ◌<◌, T, ℤ, pos, ◌*ℤ◌, Float, Result, Ok, Err}
 use Rattle.std.proofs.Common.{sym, ◌∙◌, lt_irrefl, arith}
 use Rattle.std.specs.Float.{nan, inf, fin}
 use Rattle.std.specs.Float.Ieee.{is_nan, to_bits}
 use Rattle.calibration.specs.Reading.{InRange}
-use Rattle.doubles.specs.declared.Reading.{Reading}
-use Rattle.doubles.specs.declared.Reading.TheVariants.{Double, Refused}
 use Rattle.doubles.specs.Double.{minus, exponent}
 use Rattle.doubles.specs.Nearest.{Nearest}
 use Rattle.doubles.specs.Quotient.{bits_of, negative, quotient, Quotient}
@@ -14,6 +12,7 @@ use Rattle.doubles.proofs.ValueLaws.{is-sized}
 use Rattle.doubles.proofs.OperandLaws.{dividend-is, divisor-is}
 use Rattle.doubles.proofs.QuotientLaws.{held, worth-at, exact-at, zero-at}
 use Rattle.doubles.proofs.NearestLaws.{nearest-at, nearest-only}
+use Rattle.refusals.specs.declared.Refusal.{Refusal}
 
 pub quotient_is : (raw : ℤ) (e f : ℕ) → InRange raw e f → Quotient raw e f (quotient raw e f)
 unfolding quotient
@@ -35,9 +34,9 @@ only raw e f x bits q n s = nearest-only n q.nearest (s ∙ sym q.sign)
 
 -- ---- Its bits may be asked for
 
-pub exactly-number : (raw : ℤ) (e f : ℕ) (r : Reading) → Exactly raw e f r → IsNumber r
-exactly-number raw e f (Double x) q = q.nearest.number
-exactly-number raw e f (Refused refusal) q = tt
+pub exactly-number : (raw : ℤ) (e f : ℕ) (r : Result Float Refusal) → Exactly raw e f r → IsNumber r
+exactly-number raw e f (Ok x) q = q.nearest.number
+exactly-number raw e f (Err refusal) q = tt
 
 pub no_nan : (x : Float) → exponent (bits_of x) < 2047 → T (not (is_nan x))
 unfolding to_bits is_nan

@@ -6,23 +6,8 @@ ghost use Rattle.calibration.specs.Reading.{InRange};
 ghost use Rattle.doubles.specs.Quotient.{scale_double, Quotient};
 ghost use Rattle.doubles.specs.Reading.{told, told_place, Exactly, PlacedExactly, reading, place_reading};
 
-use calibration::Calibrated;
 use channels::{Attribute, Place};
-use refusals::{Judgement, Refusal};
-
-// A double; or refusal 12, which names the first of raw, E and F that is out of its range; or 20, for a place whose channel has no scaling value.
-#[derive(Clone, Copy)]
-pub enum Reading {
-    Double(f64),
-    Refused(Refusal),
-}
-
-// What a place of a point reads as.
-#[derive(Clone, Copy)]
-pub enum PlaceReading {
-    Absent,
-    Present(Reading),
-}
+use refusals::Refusal;
 
 // (1 + F/2048) * 2^(E-16) by its bits: the exponent, E - 16 + 1023, stands at 2^52, and F at the top of the digits, at 2^41. Nothing is rounded.
 fn scale_of(e: u64, f: u64) -> f64
@@ -42,26 +27,20 @@ fn divide(raw: i64, e: u64, f: u64) -> f64
 }
 
 // Raw divided by the scale that E and F say.
-pub fn to_double(raw: i64, e: u64, f: u64) -> Reading
+pub fn to_double(raw: i64, e: u64, f: u64) -> Result<f64, Refusal>
     ensures { (told result ≡ reading raw e f) × Exactly raw e f result }
 {
-    match calibration::judge(raw, e, f) {
-        Judgement::Passed => Reading::Double(divide(raw, e, f)),
-        Judgement::Refused(refusal) => Reading::Refused(refusal),
-    }
+    calibration::judge(raw, e, f)?;
+    Ok(divide(raw, e, f))
 }
 
 // One place of a point, with its channel's scaling value.
-pub fn place_double(place: Place, scaling: Attribute) -> PlaceReading
+pub fn place_double(place: Place, scaling: Attribute) -> Option<Result<f64, Refusal>>
     ensures { (told_place result ≡ place_reading place scaling) × PlacedExactly place scaling result }
 {
-    match calibration::calibrate(place, scaling) {
-        Calibrated::Absent => PlaceReading::Absent,
-        Calibrated::Refused(refusal) => PlaceReading::Present(Reading::Refused(refusal)),
-        Calibrated::Present(scaled) => PlaceReading::Present(Reading::Double(divide(
-            scaled.raw,
-            scaled.exponent,
-            scaled.fraction,
-        ))),
+    let calibrated = calibration::calibrate(place, scaling)?;
+    match calibrated {
+        Ok(scaled) => Some(Ok(divide(scaled.raw, scaled.exponent, scaled.fraction))),
+        Err(refusal) => Some(Err(refusal)),
     }
 }

@@ -4,7 +4,7 @@
 -- equations with `judged_whole`, `pointed_at` and `places_in`, `templates::read` promises `r ≡ template_of bytes`, `readings::to_thousandths`
 -- promises `told r ≡ reading raw e f`, and none can meet its promise by a second answer. The right sides of these equations are what is
 -- computed here.
-use Rattle.std.specs.Prelude.{◌≡◌, refl, Bool, true, false, List, [], ◌∷◌, ◌++◌, map, ℕ, ℤ, pos, negsuc, replicate, set, take, length}
+use Rattle.std.specs.Prelude.{◌≡◌, refl, Bool, true, false, List, [], ◌∷◌, ◌++◌, map, ℕ, ℤ, pos, negsuc, replicate, set, take, length, Ok, Result, Err, Option, Some, None, ⊤}
 use Rattle.formats.specs.Reader as reader
 use Rattle.formats.specs.Reader.{Answer, next, run, bind, each, times, one, free, literal}
 use Rattle.formats.specs.Number as numbers
@@ -12,12 +12,8 @@ use Rattle.formats.specs.Number.{number}
 use Rattle.refusals.specs.Table.{number_of, place_of, named, refusal_of}
 use Rattle.refusals.specs.Stages.{require, or_else}
 use Rattle.refusals.specs.Ranges.{first_misfit}
-use Rattle.refusals.specs.declared.Where.{Where}
-use Rattle.refusals.specs.declared.Where.TheVariants.{At, Nowhere}
 use Rattle.refusals.specs.declared.Refusal.{Refusal}
 use Rattle.refusals.specs.declared.Refusal.TheVariants.{Short, Identifier, XOrY, ReservedBit, OpeningBits, NoPoint, Maximum}
-use Rattle.refusals.specs.declared.Judgement.{Judgement}
-use Rattle.refusals.specs.declared.Judgement.TheVariants.{Passed, Refused}
 use Rattle.channels.specs.Channel.{signed_of}
 use Rattle.channels.specs.Stored.{offset, value_of}
 use Rattle.tip_switch.specs.Switch.{state_of}
@@ -34,11 +30,8 @@ use Rattle.point_places.specs.Places.{places_of, nowhere}
 use Rattle.records.specs.Record.{Record, extension, full_record, present}
 use Rattle.record_reading.specs.Verdict.{verdict_from, description_in, judged, judged_whole}
 use Rattle.record_points.specs.Pointing.{pointed_at, places_in}
-use Rattle.record_reading.specs.declared.Verdict.{Verdict}
-use Rattle.record_reading.specs.declared.Verdict.TheVariants as verdict
+use Rattle.record_reading.specs.declared.Extent.{Extent}
 use Rattle.record_reading.specs.declared.Judged.{Judged}
-use Rattle.record_points.specs.declared.Pointed.{Pointed}
-use Rattle.record_points.specs.declared.Pointed.TheVariants as pointed
 use Rattle.demands.specs.Shortest.{M}
 use Rattle.templates.specs.declared.Judged as judgement
 use Rattle.templates.specs.Reading as templates
@@ -59,7 +52,7 @@ pub data Question : Type 0 where
 -- no refusal; or one, by document 01's number and the place that it names
 pub data Numbered : Type 0 where
   accepted : Numbered
-  refused : (number : ℕ) → Where → Numbered
+  refused : (number : ℕ) → Option ℕ → Numbered
 
 abbrev numbered : Refusal → Numbered
 numbered refusal = refused (number_of refusal) (place_of refusal)
@@ -69,7 +62,7 @@ pub record Said : Type 0 where
   pub front : Judged  -- by judge
   pub whole : Judged  -- by judge_whole
   pub number : Numbered  -- that, as document 01 numbers it
-  pub pointed : Pointed  -- by judge_point, of the first point
+  pub pointed : Result ⊤ Refusal  -- by judge_point, of the first point
   pub places : List Place  -- by point, of the first point
 
 pub data Answered : Type 0 where
@@ -77,13 +70,13 @@ pub data Answered : Type 0 where
   judged_as : Numbered → judgement.Judged → Answered
   read : List readings.Answer → Answered
 
-unfoldable pub verdict_number : Verdict → Numbered
-verdict_number (verdict.Record n count extended) = accepted
-verdict_number (verdict.Refused refusal) = numbered refusal
+unfoldable pub verdict_number : Result Extent Refusal → Numbered
+verdict_number (Ok extent) = accepted
+verdict_number (Err refusal) = numbered refusal
 
-unfoldable pub template_number : Judgement → Numbered
-template_number Passed = accepted
-template_number (Refused refusal) = numbered refusal
+unfoldable pub template_number : Result ⊤ Refusal → Numbered
+template_number (Ok _) = accepted
+template_number (Err refusal) = numbered refusal
 
 -- what is said, by what reading the bytes answers
 unfoldable pub said_of : (size : ℕ) → Answer Record → Said
@@ -103,7 +96,7 @@ answered (scaled e f raws) = read (map (λ raw. reading raw e f) raws)
 -- ---- Answers, in the words of document 01
 
 -- one verdict, by judge and by judge_whole
-abbrev says : Verdict → Description → Numbered → Pointed → List Place → Answered
+abbrev says : Result Extent Refusal → Description → Numbered → Result ⊤ Refusal → List Place → Answered
 says v d number pointed places = said (record {
   front = record { verdict = v; description = d };
   whole = record { verdict = v; description = d };
@@ -114,17 +107,17 @@ says v d number pointed places = said (record {
 
 -- a record of some length, without extended data: with no points, and with one
 abbrev empty : (length : ℕ) → Description → Answered
-empty n d = says (verdict.Record n 0 false) d accepted (pointed.Refused NoPoint) nowhere
+empty n d = says (Ok (record { length = n; count = 0; extended = false })) d accepted (Err NoPoint) nowhere
 
 abbrev single : (length : ℕ) → Description → List Place → Answered
-single n d places = says (verdict.Record n 1 false) d accepted pointed.Point places
+single n d places = says (Ok (record { length = n; count = 1; extended = false })) d accepted (Ok tt) places
 
 -- a refusal, with its number and its place; 1 has none
-abbrev refusal : (number : ℕ) → Where → Refusal → Answered
-refusal number place r = says (verdict.Refused r) (nothing Full) (refused number place) (pointed.Refused r) nowhere
+abbrev refusal : (number : ℕ) → Option ℕ → Refusal → Answered
+refusal number place r = says (Err r) (nothing Full) (refused number place) (Err r) nowhere
 
 abbrev short : Answered
-short = refusal 1 Nowhere Short
+short = refusal 1 None Short
 
 -- X and Y, and no other channel: what is said of them, and a point of them
 abbrev plain : (constant : Bool) → Descriptor
@@ -166,14 +159,14 @@ table =
     (bytes M is empty 17 both)  -- P1
     ∷ (bytes (take 16 M) is short)  -- P2
     ∷ (bytes [] is short)  -- P3
-    ∷ (bytes (0x53 ∷ 0x45 ∷ []) is refusal 2 (At 1) (Identifier 1))  -- P4
-    ∷ (bytes (set M 8 0x40) is refusal 4 (At 8) (XOrY (At 8)))  -- P5
-    ∷ (bytes (set M 10 0x01) is refusal 5 (At 10) (ReservedBit 10))  -- P6
-    ∷ (bytes (set M 13 0x01) is refusal 7 (At 13) (OpeningBits 13))  -- P7
+    ∷ (bytes (0x53 ∷ 0x45 ∷ []) is refusal 2 (Some 1) (Identifier 1))  -- P4
+    ∷ (bytes (set M 8 0x40) is refusal 4 (Some 8) (XOrY (Some 8)))  -- P5
+    ∷ (bytes (set M 10 0x01) is refusal 5 (Some 10) (ReservedBit 10))  -- P6
+    ∷ (bytes (set M 13 0x01) is refusal 7 (Some 13) (OpeningBits 13))  -- P7
     ∷ (bytes (set M 16 0x01 ++ 0x7F ∷ 0xFF ∷ 0x80 ∷ 0x00 ∷ []) is single 21 both (xy (Number (negsuc 0)) (Number (pos 0))))  -- P8: X -1, Y 0
     ∷ (bytes (set (set M 10 0x04) 16 0x01 ++ 0x80 ∷ 0x05 ∷ []) is single 19 constant_x (xy Constant (Number (pos 5))))  -- P9: X constant, Y 5
     ∷ (template (0xB1 ∷ 0x03 ∷ 0x82 ∷ 0x01 ∷ 0x64 ∷ []) is judged_as accepted (templates.accepted (saying false (nothing Compact) true 100)))  -- P10
-    ∷ (template (0xB1 ∷ 0x04 ∷ 0x82 ∷ 0x02 ∷ 0x00 ∷ 0x64 ∷ []) is judged_as (refused 18 Nowhere) (templates.refused Maximum))  -- P11
+    ∷ (template (0xB1 ∷ 0x04 ∷ 0x82 ∷ 0x02 ∷ 0x00 ∷ 0x64 ∷ []) is judged_as (refused 18 None) (templates.refused Maximum))  -- P11
     ∷ (scaled 26 1952 (pos 1 ∷ negsuc 0 ∷ pos 3 ∷ []) is read (value (pos 1) ∷ value (negsuc 0) ∷ value (pos 2) ∷ []))  -- P12: 1, -1 and 3 are 1, -1 and 2
     ∷ []
 

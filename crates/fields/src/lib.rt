@@ -1,110 +1,81 @@
-// The fields of a question other than its description: each reading tells why its word could not be read, and the place behind it.
+// The fields of a question other than its description: each reading tells what its words say and the place behind them, or why one could not be read.
 #![tactic(auto)]
 
-ghost use Rattle.std.specs.Prelude.{◌≡◌, cond, ◌⊎◌, ◌≤◌, eqb};
+ghost use Rattle.std.specs.Prelude.{◌≡◌, ◌≤◌, IfOk, MatchResult};
 ghost use Rattle.fields.specs.Ahead.{Ahead};
 ghost use Rattle.words.specs.Places.{Blank};
+ghost use Rattle.words.specs.declared.Reason.TheVariants.{TooMany};
 
 use channels::{Attribute, Place};
+use words::{Parsed, Reason};
 
-// Why a word could not be read, beside the reasons of `words` and `sayings`.
-pub const NOT_A_PLACE: usize = 5;
-
-pub const TOO_MANY: usize = 6;
-
-// Of two reasons the one that stands first in the line.
-pub fn first_of(reason: usize, later: usize) -> usize
-    ensures { result ≡ cond (eqb reason 0) later reason }
-{
-    if reason == words::NO_REASON {
-        return later;
-    }
-    reason
-}
-
-// The line has to end: the reason why not.
-pub fn end_at(line: &[u8], at: usize) -> usize
-    ensures { ((result ≡ 0) ⊎ (result ≡ 6)) × (result ≡ 0 → Blank line.now at) }
+// The line has to end.
+pub fn end_at(line: &[u8], at: usize) -> Result<(), Reason>
+    ensures { MatchResult result (λ _. Blank line.now at) (λ reason. reason ≡ TooMany) }
 {
     let after = words::next(line, b' ', at);
     if after.from < after.to {
-        return TOO_MANY;
+        return Err(Reason::TooMany);
     }
-    words::NO_REASON
+    Ok(())
+}
+
+// What the last word of a line says: the line has to end behind it. Of two reasons the one that stands first in the line is told.
+pub fn last_of<T: Drop>(line: &[u8], read: Result<Parsed<T>, Reason>) -> Result<T, Reason>
+    ensures { MatchResult read (λ said. MatchResult result (λ value. (value ≡ said.value) × Blank line.now said.behind) (λ reason. reason ≡ TooMany)) (λ reason. result ≡ Err reason) }
+{
+    let said = read?;
+    end_at(line, said.behind)?;
+    Ok(said.value)
 }
 
 // Whether a word is `!` alone, which says that there is none.
 fn says_none(word: &[u8]) -> bool {
-    words::says_not(word) && word.len() == 1
+    matches!(word, [b'!'])
 }
 
 // A place of a point, as `point` answers it.
-#[derive(Clone, Copy)]
-pub struct Placed {
-    pub reason: usize,
-    pub place: Place,
-    pub behind: usize,
-}
-
-pub fn place_at(line: &[u8], at: usize) -> Placed
-    ensures { Ahead line.now at result.behind }
+pub fn place_at(line: &[u8], at: usize) -> Result<Parsed<Place>, Reason>
+    ensures { IfOk result (λ said. Ahead line.now at said.behind) }
 {
-    let span = words::next(line, b' ', at);
-    let word = words::part(line, span.from, span.to);
-    let named = words::which(b". -", b' ', word);
-    if named < 2 {
-        return Placed {
-            reason: words::NO_REASON,
-            place: if named == 0 {
-                Place::Absent
-            } else {
-                Place::Constant
-            },
-            behind: span.to,
-        };
-    }
-    let number = numerals::small_in(word);
-    Placed {
-        reason: words::reason(number.good, word, NOT_A_PLACE),
-        place: Place::Number(number.value),
-        behind: span.to,
-    }
+    let word = words::word_at(line, at);
+    let place = match word.value {
+        [b'.'] => Some(Place::Absent),
+        [b'-'] => Some(Place::Constant),
+        other => numerals::small_in(other).map(|number| Place::Number(number)),
+    };
+    words::read_as(word, place, Reason::NotAPlace)
 }
 
 // A channel's scaling value, or none, or a number without its flag.
-#[derive(Clone, Copy)]
-pub struct Scaling {
-    pub reason: usize,
-    pub attribute: Attribute,
-    pub behind: usize,
-}
-
-pub fn scaling_at(line: &[u8], at: usize) -> Scaling
-    ensures { Ahead line.now at result.behind }
+pub fn scaling_at(line: &[u8], at: usize) -> Result<Parsed<Attribute>, Reason>
+    ensures { IfOk result (λ said. Ahead line.now at said.behind) }
 {
-    let value = words::next(line, b' ', at);
-    let word = words::part(line, value.from, value.to);
-    let number = numerals::small_in(words::without_not(word));
-    Scaling {
-        reason: words::reason(number.good || says_none(word), word, words::NOT_A_NUMBER),
-        attribute: Attribute {
-            given: !words::says_not(word),
-            number: number.value,
-        },
-        behind: value.to,
-    }
+    let word = words::word_at(line, at);
+    let number = if says_none(word.value) {
+        Some(0)
+    } else {
+        numerals::small_in(words::without_not(word.value))
+    };
+    let given = !words::says_not(word.value);
+    let attribute = number.map(|number| Attribute {
+        given: given,
+        number: number,
+    });
+    words::read_as(word, attribute, Reason::NotANumber)
 }
 
-// What a record is to be written of, besides its description.
+// What a record is to be written of, besides its description: how many values are given, and how many bytes are lent, whether or not they are wanted.
 #[derive(Clone, Copy)]
 pub struct Wanted {
-    pub reason: usize,
     pub count: usize,
     pub given: usize,
     pub extended: bool,
     pub lent: usize,
     pub room: usize,
-    pub behind: usize,
+    ghost given_in_space: { given ≤ 131072 },
+    ghost lent_in_space: { lent ≤ 131072 },
+    ghost room_in_bounds: { room ≤ 131072 },
 }
 
 // Count, values, extended data, room.
@@ -113,87 +84,90 @@ pub fn record_at(
     at: usize,
     values: &mut [i32; 131072],
     space: &mut [u8; 131072],
-) -> Wanted
-    ensures { result.room ≤ 131072 }
+) -> Result<Parsed<Wanted>, Reason>
+    ensures { IfOk result (λ said. said.value.room ≤ 131072) }
 {
-    let count = numerals::natural_at(line, at, 18446744073709551615);
-    let given = values_at(line, count.behind, values);
-    let extended = extended_at(line, given.behind, space);
-    let room = numerals::natural_at(line, extended.behind, 131072);
-    let reason = first_of(extended.reason, room.reason);
-    Wanted {
-        reason: first_of(count.reason, first_of(given.reason, reason)),
-        count: count.value as usize,
-        given: given.count,
-        extended: extended.wanted,
-        lent: extended.count,
-        room: room.value as usize,
+    let count = numerals::natural_at(line, at, u64::MAX)?;
+    let given = values_at(line, count.behind, values)?;
+    let extended = extended_at(line, given.behind, space)?;
+    let room = numerals::natural_at(line, extended.behind, 131072)?;
+    Ok(Parsed {
+        value: Wanted {
+            count: count.value as usize,
+            given: given.value,
+            extended: extended.value.wanted,
+            lent: extended.value.count,
+            room: room.value as usize,
+        },
         behind: room.behind,
-    }
+    })
 }
 
-// How many values, or bytes, a word says, and whether they are wanted.
+// How many values a word says.
+fn values_at(line: &[u8], at: usize, values: &mut [i32; 131072]) -> Result<Parsed<usize>, Reason>
+    ensures { IfOk result (λ said. said.value ≤ 131072) }
+{
+    let word = words::word_at(line, at);
+    let count = numerals::values_in(word.value, values);
+    words::read_as(word, count, Reason::NotANumber)
+}
+
+// How many bytes a word says, and whether they are wanted.
 #[derive(Clone, Copy)]
-struct Given {
-    reason: usize,
+struct Lent {
     wanted: bool,
     count: usize,
-    behind: usize,
-}
-
-fn values_at(line: &[u8], at: usize, values: &mut [i32; 131072]) -> Given {
-    let list = words::next(line, b' ', at);
-    let word = words::part(line, list.from, list.to);
-    let amount = numerals::values_in(word, values);
-    Given {
-        reason: words::reason(amount.good, word, words::NOT_A_NUMBER),
-        wanted: true,
-        count: amount.count,
-        behind: list.to,
-    }
 }
 
 // Extended data, which `!` alone says are none.
-fn extended_at(line: &[u8], at: usize, space: &mut [u8; 131072]) -> Given {
-    let data = words::next(line, b' ', at);
-    let word = words::part(line, data.from, data.to);
-    let amount = hexadecimal::hex_in(words::without_not(word), space);
-    Given {
-        reason: words::reason(amount.good || says_none(word), word, words::NOT_BYTES),
-        wanted: !words::says_not(word),
-        count: amount.count,
-        behind: data.to,
-    }
+fn extended_at(line: &[u8], at: usize, space: &mut [u8; 131072]) -> Result<Parsed<Lent>, Reason>
+    ensures { IfOk result (λ said. said.value.count ≤ 131072) }
+{
+    let word = words::word_at(line, at);
+    let count = if says_none(word.value) {
+        Some(0)
+    } else {
+        hexadecimal::hex_in(words::without_not(word.value), space)
+    };
+    let wanted = !words::says_not(word.value);
+    let lent = count.map(|count| Lent {
+        wanted: wanted,
+        count: count,
+    });
+    words::read_as(word, lent, Reason::NotBytes)
 }
 
-// What a template is to be written of, besides its description.
+// What a template is to be written of, besides its description. A maximum may be lent and not wanted.
 #[derive(Clone, Copy)]
 pub struct Template {
-    pub reason: usize,
     pub limited: bool,
     pub maximum: u32,
     pub room: usize,
     pub described: bool,
-    pub behind: usize,
+    ghost room_in_bounds: { room ≤ 131072 },
 }
 
 // Maximum, room, and `!` where no description is wanted.
-pub fn template_at(line: &[u8], at: usize) -> Template
-    ensures { result.room ≤ 131072 }
+pub fn template_at(line: &[u8], at: usize) -> Result<Parsed<Template>, Reason>
+    ensures { IfOk result (λ said. said.value.room ≤ 131072) }
 {
-    let first = words::next(line, b' ', at);
-    let word = words::part(line, first.from, first.to);
-    let maximum = numerals::natural_in(words::without_not(word), 4294967295);
-    let good = maximum.good || says_none(word);
-    let lent = numerals::natural_at(line, first.to, 131072);
-    let none = words::next(line, b' ', lent.behind);
-    let described = !says_none(words::part(line, none.from, none.to));
-    Template {
-        reason: first_of(words::reason(good, word, words::NOT_A_NUMBER), lent.reason),
-        limited: !words::says_not(word),
-        maximum: maximum.value as u32,
-        room: lent.value as usize,
-        described: described,
-        behind: if described { lent.behind } else { none.to },
-    }
+    let word = words::word_at(line, at);
+    let number = if says_none(word.value) {
+        Some(0)
+    } else {
+        numerals::natural_in(words::without_not(word.value), 4294967295)
+    };
+    let maximum = words::read_as(word, number, Reason::NotANumber)?;
+    let lent = numerals::natural_at(line, maximum.behind, 131072)?;
+    let none = words::word_at(line, lent.behind);
+    let described = !says_none(none.value);
+    Ok(Parsed {
+        value: Template {
+            limited: !words::says_not(word.value),
+            maximum: maximum.value as u32,
+            room: lent.value as usize,
+            described: described,
+        },
+        behind: if described { lent.behind } else { none.behind },
+    })
 }

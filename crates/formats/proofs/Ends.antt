@@ -1,5 +1,5 @@
 -- Where reading ends: in the string that it starts in, and no earlier. So n equal parts are told as n steps are, and certain bytes as they are matched.
-use Rattle.std.specs.Prelude.{◌≡◌, Bool, true, false, T, eqb, ltb, length, drop, get_or}
+use Rattle.std.specs.Prelude.{◌≡◌, Bool, true, false, T, eqb, ltb, length, drop, get_or, Result, Ok, Err}
 use Rattle.std.proofs.Math.Path.{refl, ap}
 use Rattle.std.proofs.Common.{sym, ◌∙◌}
 use Rattle.std.proofs.Math.Logic.{by_cases}
@@ -15,9 +15,8 @@ use Rattle.formats.specs.Bytes.{impossible}
 use Rattle.formats.specs.Reader.{Reader, Answer, ok, short, bad, after, run, read_at, times, free, literal}
 use Rattle.formats.specs.Compose.{at_done, at-short, at-pass, at-fail, free-short}
 use Rattle.formats.specs.Told.{told, told-done, map-told, bind_done, bind-failed, then_told, repeated, matched, matched-short, matched-bad, matched-next}
-use Rattle.formats.specs.declared.Outcome.{Outcome}
-use Rattle.formats.specs.declared.Outcome.TheVariants.{Done, Failed}
 use Rattle.formats.proofs.Lawful.{whole}
+use Rattle.formats.specs.declared.Failure.{Failure}
 
 -- a reader that starts in a string ends in it, no earlier
 module _ {A : Type 0} (r : Reader A) (s : List ℕ) (at : ℕ) where
@@ -40,18 +39,18 @@ module _ (n : ℕ) (s : List ℕ) (at : ℕ) where
   at-free-short h = ap (after at) (free-short n (drop at s) (simp length-drop (omega arith)))
 
 -- a part that starts in a string ends in it
-pub done-within : {A : Type 0} (r : Reader A) (s : List ℕ) (at : ℕ) {n : ℕ} → at ≤ length s → Done n ≡ told (read_at r s at) → (at ≤ n) × (n ≤ length s)
+pub done-within : {A : Type 0} (r : Reader A) (s : List ℕ) (at : ℕ) {n : ℕ} → at ≤ length s → Ok n ≡ told (read_at r s at) → (at ≤ n) × (n ≤ length s)
 done-within r s at h e = at-within r s at (told-done (read_at r s at) e).1 h
 
 -- n equal parts are n steps
-module _ {A : Type 0} (r : Reader A) (s : List ℕ) (step : ℕ → Outcome) (one : (at : ℕ) → at ≤ length s → told (read_at r s at) ≡ step at) where
-  times-by : (n at : ℕ) (x : Outcome) → at ≤ length s → told (read_at r s at) ≡ x → ((m : ℕ) → m ≤ length s → told (read_at (times n r) s m) ≡ repeated step n m)
+module _ {A : Type 0} (r : Reader A) (s : List ℕ) (step : ℕ → Result ℕ Failure) (one : (at : ℕ) → at ≤ length s → told (read_at r s at) ≡ step at) where
+  times-by : (n at : ℕ) (x : Result ℕ Failure) → at ≤ length s → told (read_at r s at) ≡ x → ((m : ℕ) → m ≤ length s → told (read_at (times n r) s m) ≡ repeated step n m)
       → told (read_at (times (suc n) r) s at) ≡ then_told x (repeated step n)
   unfolding times then_told
-  times-by n at (Done m) h e rest =
+  times-by n at (Ok m) h e rest =
       let x = told-done (read_at r s at) (sym e) in
       bind_done r _ s at x.1 ∙ map-told (λ vs. x.0 ∷ vs) (times n r) s m ∙ rest m (done-within r s at h (sym e)).1
-  times-by n at (Failed f) h e rest = bind-failed r _ s at (sym e)
+  times-by n at (Err f) h e rest = bind-failed r _ s at (sym e)
 
   pub times-repeated : (n at : ℕ) → at ≤ length s → told (read_at (times n r) s at) ≡ repeated step n at
   unfolding told times repeated

@@ -1,5 +1,5 @@
 -- Readers of a fixed number of free bytes: code may pass over them at once.
-use Rattle.std.specs.Prelude.{◌≡◌, cond, List, [], ◌∷◌, ℕ, zero, suc, ◌+◌, ◌*◌, ◌≤◌, ◌<◌, leb, length}
+use Rattle.std.specs.Prelude.{◌≡◌, cond, List, [], ◌∷◌, ℕ, zero, suc, ◌+◌, ◌*◌, ◌≤◌, ◌<◌, leb, length, Result, Ok, Err}
 use Rattle.std.proofs.Common.{sym, ap, ◌∙◌, arith, le-leb}
 use Rattle.std.proofs.Math.Logic.{by_cases}
 use Rattle.std.proofs.Math.Decide.{dec_lt}
@@ -8,28 +8,27 @@ use Rattle.formats.specs.Reader.{Reader, done, read_at, bind, map, times}
 use Rattle.formats.specs.Compose.{at_done}
 use Rattle.formats.specs.Told.{told, told-done, bind_done, bind-failed, map-told}
 use Rattle.formats.specs.declared.Failure.TheVariants.{Short}
-use Rattle.formats.specs.declared.Outcome.{Outcome}
-use Rattle.formats.specs.declared.Outcome.TheVariants.{Done, Failed}
+use Rattle.formats.specs.declared.Failure.{Failure}
 
 -- where n bytes from a place end, if they are there
-unfoldable pub ends : List ℕ → ℕ → ℕ → Outcome
-ends s at n = cond (leb (at + n) (length s)) (Done (at + n)) (Failed Short)
+unfoldable pub ends : List ℕ → ℕ → ℕ → Result ℕ Failure
+ends s at n = cond (leb (at + n) (length s)) (Ok (at + n)) (Err Short)
 
 -- r reads n bytes, whatever they are
 abbrev pub Jumps : {A : Type 0} → Reader A → ℕ → Type 0
 Jumps r n = (s : List ℕ) (at : ℕ) → at ≤ length s → told (read_at r s at) ≡ ends s at n
 
 module _ (s : List ℕ) (at n : ℕ) where
-  pub ends_there : at + n ≤ length s → ends s at n ≡ Done (at + n)
+  pub ends_there : at + n ≤ length s → ends s at n ≡ Ok (at + n)
   unfolding ends
   ends_there h = rw (le-leb (at + n) (length s) h)
 
-  pub ends-short : length s < at + n → ends s at n ≡ Failed Short
+  pub ends-short : length s < at + n → ends s at n ≡ Err Short
   unfolding ends
   ends-short h = rw (lt-leb (at + n) (length s) h)
 
-pub ends-none : (s : List ℕ) (at : ℕ) → at ≤ length s → ends s at 0 ≡ Done at
-ends-none s at h = ends_there s at 0 (omega arith) ∙ ap Done {x = at + 0} {y = at} (omega arith)
+pub ends-none : (s : List ℕ) (at : ℕ) → at ≤ length s → ends s at 0 ≡ Ok at
+ends-none s at h = ends_there s at 0 (omega arith) ∙ ap Ok {x = at + 0} {y = at} (omega arith)
 
 pub ends-sum : (s : List ℕ) (at n m : ℕ) → ends s (at + n) m ≡ ends s at (n + m)
 unfolding ends

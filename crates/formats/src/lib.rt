@@ -14,14 +14,6 @@ pub enum Failure {
     Bad(u8, usize),
 }
 
-// How reading ended.
-#[derive(Clone, Copy)]
-pub enum Outcome {
-    // All is well: the place after what was read.
-    Done(usize),
-    Failed(Failure),
-}
-
 // The number of two bytes, the high one first.
 pub fn pair(high: u8, low: u8) -> u16
     ensures { result ≡ high * 256 + low }
@@ -60,16 +52,7 @@ pub fn put(out: &mut [u8], start: usize, bytes: &[u8]) -> usize
     if out.len() <= start {
         return start;
     }
-    let room = out.len() - start;
-    let count = if room < bytes.len() {
-        room
-    } else {
-        bytes.len()
-    };
-    let mut i: usize = 0;
-    while i < count {
-        out[start + i] = bytes[i];
-        i += 1;
-    }
-    start + i
+    let count = (out.len() - start).min(bytes.len());
+    out[start..start + count].copy_from_slice(&bytes[..count]);
+    start + count
 }

@@ -6,36 +6,31 @@ ghost use Rattle.formats.specs.Reader.{read_at};
 ghost use Rattle.formats.specs.Told.{told, matched};
 ghost use Rattle.identifications.specs.Identification.{identification};
 
-use formats::{Failure, Outcome};
+use formats::Failure;
 
 // Four certain bytes from a place on, or the refusal of the first that is another.
-fn bytes_at(s: &[u8], start: usize, expected: [u8; 4], fault: u8) -> Outcome
+fn bytes_at(s: &[u8], start: usize, expected: [u8; 4], fault: u8) -> Result<usize, Failure>
     requires { start ≤ length s.now }
     ensures { result ≡ matched s.now start expected fault }
 {
-    let mut i: usize = 0;
-    while i < 4 {
+    for (i, byte) in expected.iter().enumerate() {
         if s.len() - start <= i {
-            return Outcome::Failed(Failure::Short);
+            return Err(Failure::Short);
         }
-        if s[start + i] != expected[i] {
-            return Outcome::Failed(Failure::Bad(fault, start + i));
+        if s[start + i] != *byte {
+            return Err(Failure::Bad(fault, start + i));
         }
-        i += 1;
     }
-    Outcome::Done(start + 4)
+    Ok(start + 4)
 }
 
 // Where the format identifier and the version end that stand from a place on (7.3.2, 7.3.3).
-pub fn end(bytes: &[u8], start: usize) -> Outcome
+pub fn end(bytes: &[u8], start: usize) -> Result<usize, Failure>
     ensures { result ≡ told (read_at identification bytes.now start) }
 {
     if bytes.len() < start {
-        return Outcome::Failed(Failure::Short);
+        return Err(Failure::Short);
     }
-    let identified = bytes_at(bytes, start, records::IDENTIFIER, 2);
-    let Outcome::Done(at) = identified else {
-        return identified;
-    };
+    let at = bytes_at(bytes, start, records::IDENTIFIER, 2)?;
     bytes_at(bytes, at, records::VERSION, 3)
 }

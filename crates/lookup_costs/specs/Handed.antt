@@ -1,16 +1,15 @@
 -- What is handed over to C, by what a lookup answers: 0 for the point, else the refusal's number.
-use Rattle.std.specs.Prelude.{List, ℕ, ◌%◌, ℤ, pos, get_or}
+use Rattle.std.specs.Prelude.{List, ℕ, ◌%◌, ℤ, pos, get_or, Result, Ok, Err, ⊤}
 use Rattle.refusals.specs.Table.{number_of}
 use Rattle.channels.specs.declared.Place.{Place}
 use Rattle.channels.specs.declared.Place.TheVariants.{Absent, Constant, Number}
-use Rattle.record_points.specs.declared.Pointed.{Pointed}
-use Rattle.record_points.specs.declared.Pointed.TheVariants as pointed
 use Rattle.lookups.specs.declared.Lookup.{Lookup}
 use Rattle.lookup_costs.specs.declared.Looked.{Looked}
+use Rattle.refusals.specs.declared.Refusal.{Refusal}
 
-abbrev pub handed_pointed : (looked : ℕ) → Pointed → Looked
-handed_pointed looked pointed.Point = record { number = 0; looked = looked }
-handed_pointed looked (pointed.Refused refusal) = record { number = number_of refusal; looked = looked }
+abbrev pub handed_pointed : (looked : ℕ) → Result ⊤ Refusal → Looked
+handed_pointed looked (Ok _) = record { number = 0; looked = looked }
+handed_pointed looked (Err refusal) = record { number = number_of refusal; looked = looked }
 
 unfoldable pub handed_lookup : Lookup → Looked
 handed_lookup l = handed_pointed l.looked l.pointed

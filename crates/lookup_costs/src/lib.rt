@@ -6,7 +6,6 @@ ghost use Rattle.lookups.specs.Lookup.{answered, look_up};
 ghost use Rattle.lookup_costs.specs.Handed.{handed_lookup, handed_place, handed_point};
 
 use channels::Place;
-use record_points::Pointed;
 
 // 0 or the refusal's number, and how many bytes were looked at.
 #[repr(C)]
@@ -24,11 +23,11 @@ pub extern "C" fn costs_look_up(bytes: &[u8], index: usize) -> Looked
     let looked = lookup.looked;
     let pointed = lookup.pointed;
     match pointed {
-        Pointed::Point => Looked {
+        Ok(()) => Looked {
             number: 0,
             looked: looked,
         },
-        Pointed::Refused(refusal) => Looked {
+        Err(refusal) => Looked {
             number: refusals::number(refusal) as u64,
             looked: looked,
         },

@@ -1,5 +1,5 @@
 -- Of a good record the lookup finds the point that the record holds: its front is the record's, and the ith point stands i widths behind it. Of other bytes judging answers.
-use Rattle.std.specs.Prelude.{◌≡◌, refl, Bool, List, ℕ, ltb, length}
+use Rattle.std.specs.Prelude.{◌≡◌, refl, Bool, List, ℕ, ltb, length, Ok}
 use Rattle.std.proofs.Math.Path.{sym, ap}
 use Rattle.std.proofs.Common.{◌∙◌, arith, ltb-true}
 use Rattle.std.proofs.Math.Bool.{true, false}
@@ -16,7 +16,6 @@ use Rattle.channels.specs.Descriptors.{stored}
 use Rattle.records.specs.Record.{Record, extension, full_record}
 use Rattle.record_fronts.specs.Front.{Heading, front, body, in_two}
 use Rattle.record_reading.specs.Verdict.{judged, verdict_from}
-use Rattle.record_reading.specs.declared.Verdict.TheVariants as verdict
 use Rattle.record_points.specs.Pointing.{pointed_at, places_in}
 use Rattle.lookups.specs.Lookup.{point_read, point_at, behind_front, look_up}
 use Rattle.lookups.specs.Joining.{joined, joined_places, Joins, SamePoint}
@@ -81,7 +80,7 @@ pub same_point : SamePoint
 unfolding verdict_from
 same_point s index length count extended = go (run full_record s) refl
   where
-    go : (x : Answer Record) → run full_record s ≡ x → (judged x).verdict ≡ verdict.Record length count extended
+    go : (x : Answer Record) → run full_record s ≡ x → (judged x).verdict ≡ Ok (record { length = length; count = count; extended = extended })
         → ((look_up s index).pointed ≡ pointed_at index (run full_record s)) × ((look_up s index).places ≡ places_in index (run full_record s))
     go (ok r end) e g = found s e index
     go short e g = impossible (cc)

@@ -1,6 +1,6 @@
 -- A sample point looked up by itself: the front of the record is read, and of its points the one that is asked for, at its own place.
 -- No other point is, nor the extended data, nor what follows the record. The bytes that are looked at are counted on the way.
-use Rattle.std.specs.Prelude.{Bool, cond, List, ℕ, ◌+◌, ◌*◌, ltb, ℤ, length}
+use Rattle.std.specs.Prelude.{Bool, cond, List, ℕ, ◌+◌, ◌*◌, ltb, ℤ, length, Result, Ok, Err, ⊤}
 use Rattle.formats.specs.Reader.{Answer, ok, short, bad, read_at}
 use Rattle.formats.specs.Sight.{seen}
 use Rattle.formats.specs.declared.Failure.TheVariants.{Short, Bad}
@@ -12,25 +12,23 @@ use Rattle.points.specs.Points.{point, width}
 use Rattle.point_places.specs.Places.{nowhere, places_in}
 use Rattle.channels.specs.Descriptors.{included, stored}
 use Rattle.record_fronts.specs.Front.{Heading, front}
-use Rattle.record_points.specs.declared.Pointed.{Pointed}
-use Rattle.record_points.specs.declared.Pointed.TheVariants as pointed
 use Rattle.lookups.specs.declared.Lookup.{Lookup}
 
 -- what is found: whether there is such a point, its sixteen places, and how many bytes were looked at
 pub record Found : Type 0 where
-  pub pointed : Pointed
+  pub pointed : Result ⊤ Refusal
   pub places : List Place
   pub looked : ℕ
 
 -- no point: its places are all absent
 abbrev pub refused : Refusal → (looked : ℕ) → Found
-refused r looked = record { pointed = pointed.Refused r; places = nowhere; looked = looked }
+refused r looked = record { pointed = Err r; places = nowhere; looked = looked }
 
 -- whether a point was read
-unfoldable pub point_read : Answer (List ℤ) → Pointed
-point_read (ok v n) = pointed.Point
-point_read short = pointed.Refused (refusal_of Short)
-point_read (bad k p) = pointed.Refused (refusal_of (Bad k p))
+unfoldable pub point_read : Answer (List ℤ) → Result ⊤ Refusal
+point_read (ok v n) = Ok tt
+point_read short = Err (refusal_of Short)
+point_read (bad k p) = Err (refusal_of (Bad k p))
 
 -- where the point of some index begins, of points that these channels are stored in and of which the first begins at a place
 abbrev pub start_of : (stored : List Bool) → (points index : ℕ) → ℕ

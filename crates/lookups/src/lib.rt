@@ -10,8 +10,7 @@ ghost use Rattle.lookups.specs.Lookup as meant;
 ghost use Rattle.lookups.specs.Lookup.{point_read, look_up, answered};
 
 use channels::{Format, Place};
-use formats::{Failure, Outcome};
-use record_points::Pointed;
+use formats::Failure;
 use refusals::Refusal;
 
 // How many bytes were looked at from a place on where reading failed: as many as are there, or up to and with the one that was refused.
@@ -28,7 +27,7 @@ fn looked_from(start: usize, size: usize, failure: Failure) -> usize
 // Whether there is such a point, and how many bytes were looked at to say so.
 #[derive(Clone, Copy)]
 pub struct Lookup {
-    pub pointed: Pointed,
+    pub pointed: Result<(), Refusal>,
     pub looked: usize,
 }
 
@@ -36,7 +35,7 @@ fn refused(failure: Failure, looked: usize) -> Lookup
     ensures { result ≡ answered (meant.refused (refusal_of failure) looked) }
 {
     Lookup {
-        pointed: Pointed::Refused(refusals::of(failure)),
+        pointed: Err(refusals::of(failure)),
         looked: looked,
     }
 }
@@ -47,11 +46,11 @@ fn look_at(bytes: &[u8], stored: [bool; 16], looked: usize, start: usize) -> Loo
     ensures { (result.pointed ≡ point_read (read_at (point 2 stored) bytes.now start)) × (result.looked ≡ looked + length (seen (point 2 stored) bytes.now start)) }
 {
     let outcome = points::judge(bytes, start, Format::Full, stored, 1);
-    if let Outcome::Failed(failure) = outcome {
+    if let Err(failure) = outcome {
         return refused(failure, looked + looked_from(start, bytes.len(), failure));
     }
     Lookup {
-        pointed: Pointed::Point,
+        pointed: Ok(()),
         looked: looked + points::width(Format::Full, stored),
     }
 }
@@ -60,36 +59,33 @@ fn look_at(bytes: &[u8], stored: [bool; 16], looked: usize, start: usize) -> Loo
 pub fn look_up(bytes: &[u8], index: usize) -> Lookup
     ensures { (result ≡ answered (look_up bytes.now index)) × (result.looked ≤ 223) }
 {
-    let heading = record_fronts::front_at(bytes, 0);
-    let outcome = heading.outcome;
-    if let Outcome::Failed(failure) = outcome {
-        return refused(failure, looked_from(0, bytes.len(), failure));
+    match record_fronts::front_at(bytes, 0) {
+        Ok(front) => {
+            if (front.count as usize) <= index {
+                return Lookup {
+                    pointed: Err(Refusal::NoPoint),
+                    looked: front.points,
+                };
+            }
+            let stored = front.stored;
+            let start = front.points + index * points::width(Format::Full, stored);
+            look_at(bytes, stored, front.points, start)
+        }
+        Err(failure) => refused(failure, looked_from(0, bytes.len(), failure)),
     }
-    let front = heading.front;
-    if (front.count as usize) <= index {
-        return Lookup {
-            pointed: Pointed::Refused(Refusal::NoPoint),
-            looked: front.points,
-        };
-    }
-    let stored = front.stored;
-    let start = front.points + index * points::width(Format::Full, stored);
-    look_at(bytes, stored, front.points, start)
 }
 
-// Its sixteen places, all absent where there is no such point: it is then read by the flags of no channel.
+// Its sixteen places, all absent where there is no such point.
 pub fn point(bytes: &[u8], index: usize) -> [Place; 16]
     ensures { result ≡ (look_up bytes.now index).places }
 {
-    let heading = record_fronts::front_at(bytes, 0);
-    let front = heading.front;
-    let mut included = [false; 16];
-    let mut stored = [false; 16];
-    let mut start: usize = 0;
+    let Ok(front) = record_fronts::front_at(bytes, 0) else {
+        return [Place::Absent; 16];
+    };
     if index < (front.count as usize) {
-        included = front.included;
-        stored = front.stored;
-        start = front.points + index * points::width(Format::Full, stored);
+        let start = front.points + index * points::width(Format::Full, front.stored);
+        point_places::places(bytes, start, Format::Full, front.included, front.stored)
+    } else {
+        [Place::Absent; 16]
     }
-    point_places::places(bytes, start, Format::Full, included, stored)
 }

@@ -16,12 +16,10 @@ pub fn size(stored: [bool; 16]) -> usize
     ensures { (result ≡ meant.size stored) × (result ≤ 16) }
 {
     let mut n: usize = 0;
-    let mut i: usize = 0;
-    while i < 16 {
-        if stored[i] {
+    for is_stored in stored {
+        if is_stored {
             n += 1;
         }
-        i += 1;
     }
     n
 }

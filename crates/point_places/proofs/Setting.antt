@@ -1,4 +1,5 @@
 -- A point as sixteen places is read place by place: reading the stored numbers and then setting them out is reading what each channel has.
+use Rattle.std.specs.Prelude.{Result, Ok, Err}
 use mathlib.Core.Path.{◌≡◌, refl, sym, ap, ◌∙◌}
 use mathlib.Core.Bool.{Bool, true, false, cond}
 use mathlib.Core.List.{List, [], ◌∷◌}
@@ -19,10 +20,8 @@ use Rattle.channels.specs.declared.Place.TheVariants.{Number}
 use Rattle.points.specs.Points.{sample, point, stored_from, channels}
 use Rattle.point_places.specs.Places.{unstored, places_of, nowhere, places_in}
 use Rattle.point_places.specs.Parts.{sampled, place_read, place}
-use Rattle.point_places.specs.declared.Sample.{Sample}
-use Rattle.point_places.specs.declared.Sample.TheVariants as samples
 use Rattle.point_places.specs.declared.PlaceRead.{PlaceRead}
-use Rattle.point_places.specs.declared.PlaceRead.TheVariants as reads
+use Rattle.point_places.specs.declared.Sample.{Sample}
 
 -- a channel with its two flags
 pub record Flagged : Type 0 where
@@ -55,9 +54,9 @@ nth-flagged (flag ∷ stored) included i (suc j) h =
     nth-flagged stored (drop 1 included) (suc i) j (omega arith) ∙ rw (z, get_or-drop, y)
 
 -- a number as a place
-abbrev pub numbered : Sample → PlaceRead
-numbered (samples.Number v n) = reads.Read (Number v) n
-numbered (samples.Failed f) = reads.Failed f
+abbrev pub numbered : Result Sample Failure → Result PlaceRead Failure
+numbered (Ok x) = Ok (record { place = Number x.value; next = x.next })
+numbered (Err f) = Err f
 
 module _ (w : ℕ) where
   abbrev pub place_of : Flagged → Reader Place
@@ -123,18 +122,23 @@ module _ (w : ℕ) where
     read_number short = refl
     read_number (bad k p) = refl
 
-    pub place-stored : (stored : Bool) {x : Sample} → stored ≡ true → sampled (read_at (sample w channel) s at) ≡ x
+    pub place-stored : (stored : Bool) {x : Result Sample Failure} → stored ≡ true → sampled (read_at (sample w channel) s at) ≡ x
         → place_read (read_at (place w channel included stored) s at) ≡ numbered x
     place-stored stored e h = ap place_read (place-number stored e) ∙ read_number (read_at (sample w channel) s at) ∙ ap numbered h
 
 -- what was read, taken back to the answer
-pub read_ok : (x : Answer Place) {v : Place} {n : ℕ} → reads.Read v n ≡ place_read x → x ≡ ok v n
-unfolding place_read
-read_ok (ok u m) e = cc
+there : Result PlaceRead Failure → PlaceRead
+there (Ok x) = x
+there (Err f) = record { place = Number (pos 0); next = 0 }
+
+pub read_ok : (x : Answer Place) {v : Place} {n : ℕ} → Ok (record { place = v; next = n }) ≡ place_read x → x ≡ ok v n
+unfolding place_read there
+read_ok (ok u m) {v} {n} e =
+    let same : record { place = v; next = n } ≡ record { place = u; next = m } = ap there e in λ i. ok ((sym same i).place) ((sym same i).next)
 read_ok short e = impossible (cc)
 read_ok (bad k p) e = impossible (cc)
 
-pub read-failed : (x : Answer Place) {f : Failure} → reads.Failed f ≡ place_read x → x ≡ failed f
+pub read-failed : (x : Answer Place) {f : Failure} → Err f ≡ place_read x → x ≡ failed f
 unfolding place_read
 read-failed (ok v n) e = impossible (cc)
 read-failed short {f} e = ap failed {x = Short} {y = f} (cc)
@@ -180,8 +184,8 @@ module _ (w : ℕ) (included stored : List Bool) (s : List ℕ) (start : ℕ) wh
     this : read_at (place_of w (get_or all i unflagged)) s at ≡ here
     this = let z : 0 + i ≡ i = omega arith in ap (λ f. read_at (place_of w f) s at) (rw z at (nth-flagged stored included 0 i h))
 
-    pub set_more : {v : Place} {n : ℕ} → i < length a → reads.Read v n ≡ place_read here → SoFar (set a i v) (i + 1) n
+    pub set_more : {v : Place} {n : ℕ} → i < length a → (Ok (record { place = v; next = n })) ≡ place_read here → SoFar (set a i v) (i + 1) n
     set_more q e = gathered-more all _ s start unflagged a i at inside g q (this ∙ read_ok _ e)
 
-    pub set-failed : {f : Failure} → reads.Failed f ≡ place_read here → places_in included stored (read_at (point w stored) s start) ≡ nowhere
+    pub set-failed : {f : Failure} → Err f ≡ place_read here → places_in included stored (read_at (point w stored) s start) ≡ nowhere
     set-failed {f} e = no-point _ f (set_all ∙ gathered-failed all _ s start unflagged a i at inside g f (this ∙ read-failed _ e))

@@ -10,49 +10,48 @@ ghost use Rattle.point_places.specs.Parts.{sampled, place_read, place};
 
 use channels::{Format, Place};
 use formats::Failure;
-use tip_switch::Switch;
 
-// What a sample point holds of a channel and where that ends, or how reading it fails.
+// What a sample point holds of a channel, and where that ends.
 #[derive(Clone, Copy)]
-enum Sample {
-    Number { value: i32, next: usize },
-    Failed(Failure),
+struct Sample {
+    value: i32,
+    next: usize,
 }
 
 // A channel's number in a sample point.
-fn sample_at(bytes: &[u8], at: usize, format: Format, channel: usize) -> Sample
+fn sample_at(bytes: &[u8], at: usize, format: Format, channel: usize) -> Result<Sample, Failure>
     ensures { result ≡ sampled (read_at (sample (width_of format) channel) bytes.now at) }
 {
     if bytes.len() <= at {
-        return Sample::Failed(Failure::Short);
+        return Err(Failure::Short);
     }
     if channel == channels::S {
         match tip_switch::state_of(bytes[at]) {
-            Switch::State(value) => Sample::Number {
+            Some(value) => Ok(Sample {
                 value: value,
                 next: at + 1,
-            },
-            Switch::NotAdmitted => Sample::Failed(Failure::Bad(8, at)),
+            }),
+            None => Err(Failure::Bad(8, at)),
         }
     } else {
         let size = channels::width(format);
         if bytes.len() - at < size {
-            return Sample::Failed(Failure::Short);
+            return Err(Failure::Short);
         }
         let number = stored_numbers::number_at(bytes, at, format);
         let value = channels::value_of(format, channels::is_signed(channel), number);
-        Sample::Number {
+        Ok(Sample {
             value: value,
             next: at + size,
-        }
+        })
     }
 }
 
-// What a sample point says of a channel and where that ends, or how reading it fails.
+// What a sample point says of a channel, and where that ends.
 #[derive(Clone, Copy)]
-pub enum PlaceRead {
-    Read { place: Place, next: usize },
-    Failed(Failure),
+pub struct PlaceRead {
+    pub place: Place,
+    pub next: usize,
 }
 
 // What stands at a place for a channel of a sample point, by its two flags. A channel that isn't stored has no bytes.
@@ -63,27 +62,25 @@ pub fn place_at(
     channel: usize,
     included: bool,
     stored: bool,
-) -> PlaceRead
+) -> Result<PlaceRead, Failure>
     ensures { result ≡ place_read (read_at (place (width_of format) channel included stored) bytes.now at) }
 {
     if stored {
-        match sample_at(bytes, at, format, channel) {
-            Sample::Number { value, next } => PlaceRead::Read {
-                place: Place::Number(value),
-                next: next,
-            },
-            Sample::Failed(failure) => PlaceRead::Failed(failure),
-        }
+        let sample = sample_at(bytes, at, format, channel)?;
+        Ok(PlaceRead {
+            place: Place::Number(sample.value),
+            next: sample.next,
+        })
     } else {
         let place = if included {
             Place::Constant
         } else {
             Place::Absent
         };
-        PlaceRead::Read {
+        Ok(PlaceRead {
             place: place,
             next: at,
-        }
+        })
     }
 }
 
@@ -100,8 +97,7 @@ pub fn places(
 {
     let mut places = [Place::Absent; 16];
     let mut at = start;
-    let mut channel: usize = 0;
-    while channel < 16 {
+    for channel in 0..16 {
         let found = place_at(
             bytes,
             at,
@@ -110,13 +106,12 @@ pub fn places(
             included[channel],
             stored[channel],
         );
-        let PlaceRead::Read { place, next } = found else {
+        let Ok(read) = found else {
             places = [Place::Absent; 16];
             return places;
         };
-        places[channel] = place;
-        at = next;
-        channel += 1;
+        places[channel] = read.place;
+        at = read.next;
     }
     places
 }

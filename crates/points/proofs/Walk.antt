@@ -1,4 +1,5 @@
 -- Points with a switch: all their bytes are free but the switch's, which stands at one offset in each.
+use Rattle.std.specs.Prelude.{Ok, Err}
 use mathlib.Core.Path.{◌≡◌, refl, sym, ap, ap₂, ◌∙◌}
 use mathlib.Core.Logic.{by_cases}
 use mathlib.Core.Bool.{Bool, true, false, cond}
@@ -16,7 +17,6 @@ use Rattle.formats.specs.Told.{told, repeated, each-done, each-failed}
 use Rattle.formats.proofs.Ends.{times-repeated}
 use Rattle.formats.specs.Writes.{All}
 use Rattle.formats.specs.declared.Failure.TheVariants.{Short, Bad}
-use Rattle.formats.specs.declared.Outcome.TheVariants.{Done, Failed}
 use Rattle.channels.specs.Channel.{S}
 use Rattle.tip_switch.specs.Switch.{admitted}
 use Rattle.points.specs.Points.{sample, point, stored_from, channels, widths, width}
@@ -28,11 +28,11 @@ use Rattle.points.proofs.Samples.{each-jumps, no_switch, stored-in, width-in}
 -- ---- The tests of the definition
 
 module _ (s : List ℕ) (at width offset : ℕ) where
-  pub switched-short : length s ≤ at + offset → switched s at width offset ≡ Failed Short
+  pub switched-short : length s ≤ at + offset → switched s at width offset ≡ Err Short
   unfolding switched
   switched-short h = rw (le-leb (length s) (at + offset) h)
 
-  pub switched-bad : at + offset < length s → admitted (get_or s (at + offset) 0) ≡ false → switched s at width offset ≡ Failed (Bad 8 (at + offset))
+  pub switched-bad : at + offset < length s → admitted (get_or s (at + offset) 0) ≡ false → switched s at width offset ≡ Err (Bad 8 (at + offset))
   unfolding switched
   switched-bad h e = rw (lt-leb (length s) (at + offset) h, e)
 
@@ -44,7 +44,7 @@ module _ (s : List ℕ) (at width offset : ℕ) where
 
 -- the numbers before the switch are passed over, if they are there
 module _ (w : ℕ) (m s : List ℕ) where
-  wide-done : (channel at : ℕ) → Wide channel → at + w ≤ length s → Done (at + w) ≡ told (read_at (sample w channel) s at)
+  wide-done : (channel at : ℕ) → Wide channel → at + w ≤ length s → Ok (at + w) ≡ told (read_at (sample w channel) s at)
   unfolding told
   wide-done channel at e h = sym (ap told (wide_ok w s at channel e (at-number w s at h)))
 
@@ -57,7 +57,7 @@ module _ (w : ℕ) (m s : List ℕ) where
       let z : at + (w + widths w l) ≡ at + w + widths w l = omega arith in
       rw (e, z) (each-done channel (l ++ m) (sample w) s at (wide-done channel at h.0 (omega arith)) ∙ over l h.1 (at + w) (omega arith))
 
-  out : (l : List ℕ) → All Wide l → (at : ℕ) → at ≤ length s → length s < at + widths w l → told (read_at (each (l ++ m) (sample w)) s at) ≡ Failed Short
+  out : (l : List ℕ) → All Wide l → (at : ℕ) → at ≤ length s → length s < at + widths w l → told (read_at (each (l ++ m) (sample w)) s at) ≡ Err Short
   unfolding widths told
   out [] h at g q = absurd (omega arith)
   out (channel ∷ l) h at g q =

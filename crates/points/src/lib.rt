@@ -1,18 +1,16 @@
 // Sample points of ISO/IEC 19794-7:2007 (7.4.2, 8.4), at the width of either format: measured and judged.
 #![tactic(auto)]
 
-ghost use Rattle.std.specs.Prelude.{◌≡◌, ℕ, ◌+◌, ◌*◌, ◌≤◌, ◌<◌, length, drop};
+ghost use Rattle.std.specs.Prelude.{◌≡◌, ℕ, ◌+◌, ◌*◌, ◌≤◌, ◌<◌, length, drop, Err};
 ghost use Rattle.formats.specs.Reader.{read_at, times};
 ghost use Rattle.formats.specs.Told.{told, repeated};
 ghost use Rattle.formats.specs.Jump.{ends};
-ghost use Rattle.formats.specs.declared.Outcome.TheVariants.{Failed};
 ghost use Rattle.channels.specs.Channel.{width_of};
 ghost use Rattle.points.specs.Points.{stored_from, point, sample_size, widths, width as point_width};
 ghost use Rattle.points.specs.Parts.{switched};
 
 use channels::Format;
-use formats::{Failure, Outcome};
-use tip_switch::Switch;
+use formats::Failure;
 
 // How many bytes a channel's number has in a sample point: one for S, as many as the format says for any other.
 pub fn sample_size(format: Format, channel: usize) -> usize
@@ -32,12 +30,10 @@ fn width_from(format: Format, stored: [bool; 16], first: usize) -> usize
     ensures { (result ≡ widths (width_of format) (stored_from first (drop first stored))) × (result ≤ 32) }
 {
     let mut w: usize = 0;
-    let mut i: usize = first;
-    while i < 16 {
-        if stored[i] {
-            w += sample_size(format, i);
+    for channel in first..16 {
+        if stored[channel] {
+            w += sample_size(format, channel);
         }
-        i += 1;
     }
     w
 }
@@ -50,27 +46,27 @@ pub fn width(format: Format, stored: [bool; 16]) -> usize
 }
 
 // Points that may be any bytes are passed over at once.
-fn jump(bytes: &[u8], start: usize, width: usize, count: usize) -> Outcome
+fn jump(bytes: &[u8], start: usize, width: usize, count: usize) -> Result<usize, Failure>
     requires { start ≤ length bytes.now }
     ensures { result ≡ ends bytes.now start (count * width) }
 {
     if !formats::is_within(count, width, bytes.len() - start) {
-        return Outcome::Failed(Failure::Short);
+        return Err(Failure::Short);
     }
-    Outcome::Done(start + count * width)
+    Ok(start + count * width)
 }
 
 // How a sample point fails that is cut, whose switch stands `offset` bytes behind its start: the switch is looked at where it is there.
 fn cut(bytes: &[u8], start: usize, offset: usize) -> Failure
     requires { start ≤ length bytes.now }
-    ensures { (width : ℕ) → length bytes.now < start + width → Failed result ≡ switched bytes.now start width offset }
+    ensures { (width : ℕ) → length bytes.now < start + width → Err result ≡ switched bytes.now start width offset }
 {
     if bytes.len() - start <= offset {
         return Failure::Short;
     }
     match tip_switch::state_of(bytes[start + offset]) {
-        Switch::State(_) => Failure::Short,
-        Switch::NotAdmitted => Failure::Bad(8, start + offset),
+        Some(_) => Failure::Short,
+        None => Failure::Bad(8, start + offset),
     }
 }
 
@@ -88,26 +84,30 @@ fn whole_points(room: usize, width: usize, count: usize) -> usize
 
 // Points one by one: where they have a switch, each of its bytes is looked at. How many are whole is asked once, and not at each.
 // The place that moves on is the switch's own, a width from one point to the next.
-fn walk_points(bytes: &[u8], start: usize, width: usize, offset: usize, count: usize) -> Outcome
+fn walk_points(
+    bytes: &[u8],
+    start: usize,
+    width: usize,
+    offset: usize,
+    count: usize,
+) -> Result<usize, Failure>
     requires { (start ≤ length bytes.now) × (offset < width) × (width ≤ 32) }
     ensures { result ≡ repeated (λ at. switched bytes.now at width offset) count start }
 {
     let whole = whole_points(bytes.len() - start, width, count);
     let mut switch = start + offset;
-    let mut i: usize = 0;
-    while i < whole {
+    for _ in 0..whole {
         let state = tip_switch::state_of(bytes[switch]);
-        let Switch::State(_) = state else {
-            return Outcome::Failed(Failure::Bad(8, switch));
+        let Some(_) = state else {
+            return Err(Failure::Bad(8, switch));
         };
         switch += width;
-        i += 1;
     }
     let end = start + whole * width;
     if whole < count {
-        return Outcome::Failed(cut(bytes, end, offset));
+        return Err(cut(bytes, end, offset));
     }
-    Outcome::Done(end)
+    Ok(end)
 }
 
 // Points that start within the bytes.
@@ -117,7 +117,7 @@ fn judge_within(
     format: Format,
     stored: [bool; 16],
     count: usize,
-) -> Outcome
+) -> Result<usize, Failure>
     requires { start ≤ length bytes.now }
     ensures { result ≡ told (read_at (times count (point (width_of format) stored)) bytes.now start) }
 {
@@ -137,17 +137,17 @@ pub fn judge(
     format: Format,
     stored: [bool; 16],
     count: usize,
-) -> Outcome
+) -> Result<usize, Failure>
     ensures { result ≡ told (read_at (times count (point (width_of format) stored)) bytes.now start) }
 {
     if start <= bytes.len() {
         return judge_within(bytes, start, format, stored, count);
     }
     if count == 0 {
-        return Outcome::Done(start);
+        return Ok(start);
     }
     if width_from(format, stored, 0) == 0 {
-        return Outcome::Done(start);
+        return Ok(start);
     }
-    Outcome::Failed(Failure::Short)
+    Err(Failure::Short)
 }

@@ -1,147 +1,144 @@
 // Questions: the name of each is found, and the bytes that it is asked of; the rooms of the questions answer.
 #![tactic(auto)]
 
-use hexadecimal::Amount;
 use orders::Order;
+use texts::Text;
+use words::Reason;
 
-const JUDGE: usize = 0;
+// What is asked of bytes alone.
+#[derive(Clone, Copy)]
+enum OfBytes {
+    Judge,
+    Whole,
+    Extended,
+    Rest,
+    Template,
+    Columns,
+}
 
-const WHOLE: usize = 1;
+// What is asked of a number and of bytes: of a point by its index, of a step by its place, and of columns by how many numbers are lent.
+#[derive(Clone, Copy)]
+enum OfNumberAndBytes {
+    Point,
+    Step,
+    LookUp,
+    ColumnsIn,
+}
 
-const EXTENDED: usize = 2;
+#[derive(Clone, Copy)]
+enum Question {
+    OfBytes(OfBytes),
+    OfNumberAndBytes(OfNumberAndBytes),
+    Write(Order),
+    WriteTemplate,
+    Thousandths,
+    Place,
+    Body,
+    BodyPoint,
+    WriteBody,
+    Turn,
+    Double,
+    DoublePlace,
+}
 
-const REST: usize = 3;
-
-const TEMPLATE: usize = 4;
-
-const COLUMNS: usize = 5;
-
-const POINT: usize = 6;
-
-const STEP: usize = 7;
-
-const LOOK_UP: usize = 8;
-
-const COLUMNS_IN: usize = 9;
-
-const WRITE: usize = 10;
-
-const WRITE_COLUMNS: usize = 11;
-
-const WRITE_TEMPLATE: usize = 12;
-
-const THOUSANDTHS: usize = 13;
-
-const PLACE: usize = 14;
-
-const BODY: usize = 15;
-
-const BODY_POINT: usize = 16;
-
-const WRITE_BODY: usize = 17;
-
-const TURN: usize = 18;
-
-const DOUBLE: usize = 19;
-
-const DOUBLE_PLACE: usize = 20;
-
-// The question of a name, or 21 where there is no such question.
-fn question_of(name: &[u8]) -> usize {
-    words::which(
-        b"judge whole extended rest template columns point step look-up columns-in write write-columns write-template thousandths place body body-point write-body turn double double-place",
-        b' ',
-        name,
-    )
+// The question of a name, where there is such a question.
+fn question_of(name: &[u8]) -> Option<Question> {
+    let question = match name {
+        b"judge" => Question::OfBytes(OfBytes::Judge),
+        b"whole" => Question::OfBytes(OfBytes::Whole),
+        b"extended" => Question::OfBytes(OfBytes::Extended),
+        b"rest" => Question::OfBytes(OfBytes::Rest),
+        b"template" => Question::OfBytes(OfBytes::Template),
+        b"columns" => Question::OfBytes(OfBytes::Columns),
+        b"point" => Question::OfNumberAndBytes(OfNumberAndBytes::Point),
+        b"step" => Question::OfNumberAndBytes(OfNumberAndBytes::Step),
+        b"look-up" => Question::OfNumberAndBytes(OfNumberAndBytes::LookUp),
+        b"columns-in" => Question::OfNumberAndBytes(OfNumberAndBytes::ColumnsIn),
+        b"write" => Question::Write(Order::Point),
+        b"write-columns" => Question::Write(Order::Column),
+        b"write-template" => Question::WriteTemplate,
+        b"thousandths" => Question::Thousandths,
+        b"place" => Question::Place,
+        b"body" => Question::Body,
+        b"body-point" => Question::BodyPoint,
+        b"write-body" => Question::WriteBody,
+        b"turn" => Question::Turn,
+        b"double" => Question::Double,
+        b"double-place" => Question::DoublePlace,
+        _ => return None,
+    };
+    Some(question)
 }
 
 // The answer to a line. Its first word names the question.
-pub fn answer(text: &mut [u8; 65536], used: u16, line: &[u8]) -> u16 {
+pub fn answer(text: &mut Text, line: &[u8]) {
     let span = words::next(line, b' ', 0);
-    let question = question_of(words::part(line, span.from, span.to));
+    match question_of(words::part(line, span.from, span.to)) {
+        Some(question) => ask(text, question, line, span.to),
+        None => answers::cannot(text, Reason::NoSuchQuestion),
+    }
+}
+
+// A question is asked of what stands behind its name.
+fn ask(text: &mut Text, question: Question, line: &[u8], at: usize) {
     match question {
-        JUDGE..=COLUMNS => of_bytes(text, used, question, 0, line, span.to),
-        POINT..=COLUMNS_IN => of_number_and_bytes(text, used, question, line, span.to),
-        WRITE => writing_questions::write(text, used, line, span.to, Order::Point),
-        WRITE_COLUMNS => writing_questions::write(text, used, line, span.to, Order::Column),
-        WRITE_TEMPLATE => writing_questions::write_template(text, used, line, span.to),
-        THOUSANDTHS => reading_questions::thousandths(text, used, line, span.to),
-        PLACE => reading_questions::place(text, used, line, span.to),
-        BODY => body_questions::body(text, used, line, span.to),
-        BODY_POINT => body_questions::point(text, used, line, span.to),
-        WRITE_BODY => body_questions::write(text, used, line, span.to),
-        TURN => body_questions::turn(text, used, line, span.to),
-        DOUBLE => reading_questions::double(text, used, line, span.to),
-        DOUBLE_PLACE => reading_questions::double_place(text, used, line, span.to),
-        _ => answers::cannot(text, used, answers::NO_SUCH_QUESTION),
+        Question::OfBytes(asked) => of_bytes(text, asked, line, at),
+        Question::OfNumberAndBytes(asked) => of_number_and_bytes(text, asked, line, at),
+        Question::Write(order) => writing_questions::write(text, line, at, order),
+        Question::WriteTemplate => writing_questions::write_template(text, line, at),
+        Question::Thousandths => reading_questions::thousandths(text, line, at),
+        Question::Place => reading_questions::place(text, line, at),
+        Question::Body => body_questions::body(text, line, at),
+        Question::BodyPoint => body_questions::point(text, line, at),
+        Question::WriteBody => body_questions::write(text, line, at),
+        Question::Turn => body_questions::turn(text, line, at),
+        Question::Double => reading_questions::double(text, line, at),
+        Question::DoublePlace => reading_questions::double_place(text, line, at),
     }
-}
-
-// A number and then bytes. It may be any of 64 bits, or the amount of numbers that are lent.
-fn of_number_and_bytes(
-    text: &mut [u8; 65536],
-    used: u16,
-    question: usize,
-    line: &[u8],
-    at: usize,
-) -> u16 {
-    let most = if question == COLUMNS_IN {
-        131072
-    } else {
-        18446744073709551615
-    };
-    let number = numerals::natural_at(line, at, most);
-    if number.reason != words::NO_REASON {
-        return answers::cannot(text, used, number.reason);
-    }
-    of_bytes(
-        text,
-        used,
-        question,
-        number.value as usize,
-        line,
-        number.behind,
-    )
-}
-
-fn rest_of(line: &[u8], at: usize, space: &mut [u8; 131072]) -> Amount {
-    hexadecimal::bytes_in(words::part(line, at, line.len()), space)
 }
 
 // The bytes that the rest of a line says. A line says at most half as many bytes as it has.
-fn of_bytes(
-    text: &mut [u8; 65536],
-    used: u16,
-    question: usize,
-    index: usize,
-    line: &[u8],
-    at: usize,
-) -> u16 {
+fn of_bytes(text: &mut Text, asked: OfBytes, line: &[u8], at: usize) {
     let mut space = [0; 131072];
-    let amount = rest_of(line, at, &mut space);
-    if !amount.good {
-        return answers::cannot(text, used, words::NOT_BYTES);
+    let Some(count) = hexadecimal::bytes_in(words::part(line, at, line.len()), &mut space) else {
+        return answers::cannot(text, Reason::NotBytes);
+    };
+    let bytes = &space[0..count];
+    match asked {
+        OfBytes::Judge => record_questions::judge(text, bytes, false),
+        OfBytes::Whole => record_questions::judge(text, bytes, true),
+        OfBytes::Extended => record_questions::extended(text, bytes),
+        OfBytes::Rest => record_questions::rest(text, bytes),
+        OfBytes::Template => template_questions::read(text, bytes),
+        OfBytes::Columns => column_questions::columns(text, bytes),
     }
-    ask(
-        text,
-        used,
-        question,
-        index,
-        hexadecimal::first(&space, amount.count),
-    )
 }
 
-// What is asked of bytes; of a point its index is told, of a step its place, and of columns how many numbers are lent.
-fn ask(text: &mut [u8; 65536], used: u16, question: usize, index: usize, bytes: &[u8]) -> u16 {
-    match question {
-        JUDGE..=WHOLE => record_questions::judge(text, used, bytes, question == WHOLE),
-        EXTENDED => record_questions::extended(text, used, bytes),
-        REST => record_questions::rest(text, used, bytes),
-        POINT => record_questions::point(text, used, bytes, index),
-        STEP => record_questions::step(text, used, bytes, index),
-        LOOK_UP => lookup_questions::look_up(text, used, bytes, index),
-        COLUMNS => column_questions::columns(text, used, bytes),
-        COLUMNS_IN => column_questions::columns_in(text, used, bytes, index),
-        _ => template_questions::read(text, used, bytes),
+// The number may be any of 64 bits, but no more numbers are lent than a line could say.
+fn most(asked: OfNumberAndBytes) -> u64 {
+    match asked {
+        OfNumberAndBytes::ColumnsIn => 131072,
+        _ => u64::MAX,
+    }
+}
+
+fn of_number_and_bytes(text: &mut Text, asked: OfNumberAndBytes, line: &[u8], at: usize) {
+    match numerals::natural_at(line, at, most(asked)) {
+        Ok(number) => of_bytes_and(text, asked, number.value as usize, line, number.behind),
+        Err(reason) => answers::cannot(text, reason),
+    }
+}
+
+fn of_bytes_and(text: &mut Text, asked: OfNumberAndBytes, number: usize, line: &[u8], at: usize) {
+    let mut space = [0; 131072];
+    let Some(count) = hexadecimal::bytes_in(words::part(line, at, line.len()), &mut space) else {
+        return answers::cannot(text, Reason::NotBytes);
+    };
+    let bytes = &space[0..count];
+    match asked {
+        OfNumberAndBytes::Point => record_questions::point(text, bytes, number),
+        OfNumberAndBytes::Step => record_questions::step(text, bytes, number),
+        OfNumberAndBytes::LookUp => lookup_questions::look_up(text, bytes, number),
+        OfNumberAndBytes::ColumnsIn => column_questions::columns_in(text, bytes, number),
     }
 }

@@ -7,84 +7,75 @@ ghost use Rattle.doubles.specs.Quotient.{bits_of};
 ghost use Rattle.doubles.specs.Reading.{IsNumber};
 
 use channels::{Attribute, Place};
+use refusals::Refusal;
+use texts::Text;
+use words::Reason;
 
-// A raw number, E and F; or why they could not be read.
+// A raw number, E and F.
 #[derive(Clone, Copy)]
 struct Asked {
-    reason: usize,
     raw: i64,
     e: u64,
     f: u64,
 }
 
-fn asked_at(line: &[u8], at: usize) -> Asked {
-    let raw = numerals::whole_at(line, at);
-    let e = numerals::natural_at(line, raw.behind, 18446744073709551615);
-    let f = numerals::natural_at(line, e.behind, 18446744073709551615);
-    let end = fields::first_of(f.reason, fields::end_at(line, f.behind));
-    Asked {
-        reason: fields::first_of(raw.reason, fields::first_of(e.reason, end)),
+fn asked_at(line: &[u8], at: usize) -> Result<Asked, Reason> {
+    let raw = numerals::whole_at(line, at)?;
+    let e = numerals::natural_at(line, raw.behind, u64::MAX)?;
+    let f = fields::last_of(line, numerals::natural_at(line, e.behind, u64::MAX))?;
+    Ok(Asked {
         raw: raw.value,
         e: e.value,
-        f: f.value,
-    }
+        f: f,
+    })
 }
 
-// A place of a point, and its channel's scaling value; or why they could not be read.
+// A place of a point, and its channel's scaling value.
 #[derive(Clone, Copy)]
 struct PlaceAsked {
-    reason: usize,
     place: Place,
     scaling: Attribute,
 }
 
-fn place_asked_at(line: &[u8], at: usize) -> PlaceAsked {
-    let placed = fields::place_at(line, at);
-    let scaling = fields::scaling_at(line, placed.behind);
-    let end = fields::first_of(scaling.reason, fields::end_at(line, scaling.behind));
-    let place = placed.place;
-    let attribute = scaling.attribute;
-    PlaceAsked {
-        reason: fields::first_of(placed.reason, end),
-        place: place,
-        scaling: attribute,
-    }
+fn place_asked_at(line: &[u8], at: usize) -> Result<PlaceAsked, Reason> {
+    let place = fields::place_at(line, at)?;
+    let scaling = fields::last_of(line, fields::scaling_at(line, place.behind))?;
+    Ok(PlaceAsked {
+        place: place.value,
+        scaling: scaling,
+    })
 }
 
-fn put_thousandths(text: &mut [u8; 65536], start: u16, reading: readings::Reading) -> u16 {
+fn put_thousandths(text: &mut Text, reading: Result<i64, Refusal>) {
     match reading {
-        readings::Reading::Thousandths(value) => {
-            let used = texts::put_bytes(text, start, b"thousandths ");
-            texts::put_long(text, used, value)
+        Ok(value) => {
+            text.put_bytes(b"thousandths ");
+            text.put_long(value)
         }
-        readings::Reading::Refused(refusal) => {
-            answers::put(text, start, answers::of_refusal(refusal))
-        }
+        Err(refusal) => { answers::put(text, answers::of_refusal(refusal)) }
     }
 }
 
-pub fn thousandths(text: &mut [u8; 65536], used: u16, line: &[u8], at: usize) -> u16 {
-    let asked = asked_at(line, at);
-    if asked.reason != words::NO_REASON {
-        return answers::cannot(text, used, asked.reason);
+pub fn thousandths(text: &mut Text, line: &[u8], at: usize) {
+    match asked_at(line, at) {
+        Ok(asked) => {
+            put_thousandths(text, readings::to_thousandths(asked.raw, asked.e, asked.f))
+        }
+        Err(reason) => answers::cannot(text, reason),
     }
-    put_thousandths(
-        text,
-        used,
-        readings::to_thousandths(asked.raw, asked.e, asked.f),
-    )
 }
 
-pub fn place(text: &mut [u8; 65536], used: u16, line: &[u8], at: usize) -> u16 {
-    let asked = place_asked_at(line, at);
-    if asked.reason != words::NO_REASON {
-        return answers::cannot(text, used, asked.reason);
+pub fn place(text: &mut Text, line: &[u8], at: usize) {
+    match place_asked_at(line, at) {
+        Ok(asked) => put_place(text, asked.place, asked.scaling),
+        Err(reason) => answers::cannot(text, reason),
     }
-    let place = asked.place;
-    let scaling = asked.scaling;
+}
+
+fn put_place(text: &mut Text, place: Place, scaling: Attribute) {
     match readings::place_thousandths(place, scaling) {
-        readings::PlaceReading::Absent => answers::put_word(text, used, answers::ABSENT),
-        readings::PlaceReading::Present(reading) => put_thousandths(text, used, reading),
+        None => answers::put_word(text, answers::ABSENT),
+        Some(reading) => put_thousandths(text, reading),
     }
 }
 
@@ -97,7 +88,7 @@ fn bits_of(number: f64) -> u64
 }
 
 // They are put as sixteen digits, the sign's bit first.
-fn put_bits(text: &mut [u8; 65536], start: u16, bits: u64) -> u16 {
+fn put_bits(text: &mut Text, bits: u64) {
     let bytes = [
         byte_of(bits >> 56),
         byte_of(bits >> 48),
@@ -108,7 +99,7 @@ fn put_bits(text: &mut [u8; 65536], start: u16, bits: u64) -> u16 {
         byte_of(bits >> 8),
         byte_of(bits),
     ];
-    texts::put_hex(text, start, &bytes)
+    text.put_hex(&bytes);
 }
 
 // The lowest byte of a number.
@@ -116,37 +107,35 @@ fn byte_of(number: u64) -> u8 {
     (number % 256) as u8
 }
 
-fn put_double(text: &mut [u8; 65536], start: u16, reading: doubles::Reading) -> u16
+fn put_double(text: &mut Text, reading: Result<f64, Refusal>)
     requires { IsNumber reading }
 {
     match reading {
-        doubles::Reading::Double(value) => {
-            let used = texts::put_bytes(text, start, b"double ");
-            put_bits(text, used, bits_of(value))
+        Ok(value) => {
+            text.put_bytes(b"double ");
+            put_bits(text, bits_of(value))
         }
-        doubles::Reading::Refused(refusal) => {
-            answers::put(text, start, answers::of_refusal(refusal))
-        }
+        Err(refusal) => { answers::put(text, answers::of_refusal(refusal)) }
     }
 }
 
-pub fn double(text: &mut [u8; 65536], used: u16, line: &[u8], at: usize) -> u16 {
-    let asked = asked_at(line, at);
-    if asked.reason != words::NO_REASON {
-        return answers::cannot(text, used, asked.reason);
+pub fn double(text: &mut Text, line: &[u8], at: usize) {
+    match asked_at(line, at) {
+        Ok(asked) => put_double(text, doubles::to_double(asked.raw, asked.e, asked.f)),
+        Err(reason) => answers::cannot(text, reason),
     }
-    put_double(text, used, doubles::to_double(asked.raw, asked.e, asked.f))
 }
 
-pub fn double_place(text: &mut [u8; 65536], used: u16, line: &[u8], at: usize) -> u16 {
-    let asked = place_asked_at(line, at);
-    if asked.reason != words::NO_REASON {
-        return answers::cannot(text, used, asked.reason);
+pub fn double_place(text: &mut Text, line: &[u8], at: usize) {
+    match place_asked_at(line, at) {
+        Ok(asked) => put_double_place(text, asked.place, asked.scaling),
+        Err(reason) => answers::cannot(text, reason),
     }
-    let place = asked.place;
-    let scaling = asked.scaling;
+}
+
+fn put_double_place(text: &mut Text, place: Place, scaling: Attribute) {
     match doubles::place_double(place, scaling) {
-        doubles::PlaceReading::Absent => answers::put_word(text, used, answers::ABSENT),
-        doubles::PlaceReading::Present(reading) => put_double(text, used, reading),
+        None => answers::put_word(text, answers::ABSENT),
+        Some(reading) => put_double(text, reading),
     }
 }

@@ -1,20 +1,18 @@
 -- The order of readings (request L11): what is claimed of the readings that raw numbers have by one scale.
-use Rattle.std.specs.Prelude.{◌≡◌, ◌≢◌, ℕ, ◌+◌, ◌*◌, ◌^◌, ◌≤◌, ℤ, ◌≤ℤ◌}
+use Rattle.std.specs.Prelude.{◌≡◌, ◌≢◌, ℕ, ◌+◌, ◌*◌, ◌^◌, ◌≤◌, ℤ, ◌≤ℤ◌, Ok, Some}
 use Rattle.channels.specs.declared.Attribute.{Attribute}
 use Rattle.channels.specs.declared.Place.TheVariants.{Number}
-use Rattle.readings.specs.declared.Reading.TheVariants.{Thousandths}
-use Rattle.readings.specs.declared.PlaceReading.TheVariants.{Present}
 use Rattle.readings.specs.Thousandths.{told, told_place, reading, place_reading}
 
 -- ---- What reads as what: the promise of each function, where its answer is a reading
 
 -- to_thousandths, of raw, E and F, answers `Thousandths(x)`
 abbrev pub ReadsAs : (e f : ℕ) (raw x : ℤ) → Type 0
-ReadsAs e f raw x = told (Thousandths x) ≡ reading raw e f
+ReadsAs e f raw x = told (Ok x) ≡ reading raw e f
 
 -- place_thousandths, of a number place and its channel's scaling value, answers `Present(Thousandths(x))`
 abbrev pub PlaceReadsAs : (scaling : Attribute) (raw x : ℤ) → Type 0
-PlaceReadsAs scaling raw x = told_place (Present (Thousandths x)) ≡ place_reading (Number raw) scaling
+PlaceReadsAs scaling raw x = told_place (Some (Ok x)) ≡ place_reading (Number raw) scaling
 
 -- ---- The claims
 

@@ -1,12 +1,10 @@
 -- A reading in thousandths: the stored value divided by the scaling value (7.3.4.3), as document 01 has it.
-use Rattle.std.specs.Prelude.{ℕ, suc, ◌+◌, ◌*◌, ◌/◌, ◌^◌, ℤ, pos, negsuc, neg_ℤ, ◌*ℤ◌}
+use Rattle.std.specs.Prelude.{ℕ, suc, ◌+◌, ◌*◌, ◌/◌, ◌^◌, ℤ, pos, negsuc, neg_ℤ, ◌*ℤ◌, Result, Ok, Err, Option, Some, None}
 use Rattle.channels.specs.declared.Attribute.{Attribute}
 use Rattle.channels.specs.declared.Place.{Place}
 use Rattle.calibration.specs.Reading as calibration
 use Rattle.calibration.specs.Reading.{value, absent, refused}
-use Rattle.readings.specs.declared.Reading.{Reading}
-use Rattle.readings.specs.declared.Reading.TheVariants.{Thousandths, Refused}
-use Rattle.readings.specs.declared.PlaceReading as placed
+use Rattle.refusals.specs.declared.Refusal.{Refusal}
 
 -- ---- The number
 
@@ -45,10 +43,10 @@ place_reading = calibration.place_reading thousandths
 
 -- ---- What the code's answers say
 
-abbrev pub told : Reading → Answer
-told (Thousandths z) = value z
-told (Refused refusal) = refused refusal
+abbrev pub told : Result ℤ Refusal → Answer
+told (Ok z) = value z
+told (Err refusal) = refused refusal
 
-abbrev pub told_place : placed.PlaceReading → Answer
-told_place placed.TheVariants.Absent = absent
-told_place (placed.TheVariants.Present r) = told r
+abbrev pub told_place : Option (Result ℤ Refusal) → Answer
+told_place None = absent
+told_place (Some r) = told r

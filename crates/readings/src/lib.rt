@@ -5,23 +5,8 @@ ghost use Rattle.std.specs.Prelude.{◌≡◌, ◌≤◌, pos, nat_abs, ◌<ℤ�
 ghost use Rattle.calibration.specs.Reading.{InRange};
 ghost use Rattle.readings.specs.Thousandths.{nearest, denominator, thousandths, told, told_place, reading, place_reading};
 
-use calibration::Calibrated;
 use channels::{Attribute, Place};
-use refusals::{Judgement, Refusal};
-
-// A whole number of thousandths; or refusal 12, which names the first of raw, E and F that is out of its range; or 20, for a place whose channel has no scaling value.
-#[derive(Clone, Copy)]
-pub enum Reading {
-    Thousandths(i64),
-    Refused(Refusal),
-}
-
-// What a place of a point reads as.
-#[derive(Clone, Copy)]
-pub enum PlaceReading {
-    Absent,
-    Present(Reading),
-}
+use refusals::Refusal;
 
 // The whole number nearest to n / d, a half going away from zero.
 fn divide_nearest(n: i64, d: i64) -> i64
@@ -56,26 +41,20 @@ fn divide(raw: i64, e: u64, f: u64) -> i64
 }
 
 // Raw divided by the scale that E and F say.
-pub fn to_thousandths(raw: i64, e: u64, f: u64) -> Reading
+pub fn to_thousandths(raw: i64, e: u64, f: u64) -> Result<i64, Refusal>
     ensures { told result ≡ reading raw e f }
 {
-    match calibration::judge(raw, e, f) {
-        Judgement::Passed => Reading::Thousandths(divide(raw, e, f)),
-        Judgement::Refused(refusal) => Reading::Refused(refusal),
-    }
+    calibration::judge(raw, e, f)?;
+    Ok(divide(raw, e, f))
 }
 
 // One place of a point, with its channel's scaling value.
-pub fn place_thousandths(place: Place, scaling: Attribute) -> PlaceReading
+pub fn place_thousandths(place: Place, scaling: Attribute) -> Option<Result<i64, Refusal>>
     ensures { told_place result ≡ place_reading place scaling }
 {
-    match calibration::calibrate(place, scaling) {
-        Calibrated::Absent => PlaceReading::Absent,
-        Calibrated::Refused(refusal) => PlaceReading::Present(Reading::Refused(refusal)),
-        Calibrated::Present(scaled) => PlaceReading::Present(Reading::Thousandths(divide(
-            scaled.raw,
-            scaled.exponent,
-            scaled.fraction,
-        ))),
+    let calibrated = calibration::calibrate(place, scaling)?;
+    match calibrated {
+        Ok(scaled) => Some(Ok(divide(scaled.raw, scaled.exponent, scaled.fraction))),
+        Err(refusal) => Some(Err(refusal)),
     }
 }

@@ -1,5 +1,5 @@
 -- The claims of `Demands` hold: by what reading the slice answers, and by the laws of both orders.
-use Rattle.std.specs.Prelude.{◌≡◌, refl, Bool, true, false, cond, List, ◌++◌, ℕ, ◌*◌, eqb, ltb, ℤ, length, take, drop}
+use Rattle.std.specs.Prelude.{◌≡◌, refl, Bool, true, false, cond, List, ◌++◌, ℕ, ◌*◌, eqb, ltb, ℤ, length, take, drop, Ok, Err}
 use Rattle.std.proofs.Common.{sym, ap, subst, ◌∙◌, arith, take_all}
 use borrow.Author.Tests.{le-ltb, eq-eqb, ne_eqb}
 use Rattle.formats.specs.Bytes.{impossible}
@@ -18,7 +18,6 @@ use Rattle.channels.specs.Descriptors.{stored}
 use Rattle.records.specs.Record.{Record, full_record}
 use Rattle.records.specs.Demands.{write-after-read}
 use Rattle.record_reading.specs.Verdict.{verdict_from, judged, unjudged, judged_whole}
-use Rattle.record_reading.specs.declared.Verdict.TheVariants as verdict
 use Rattle.record_writing.specs.Write.{record_in, write_in}
 use Rattle.record_writing.proofs.RoundTrips as trips
 use Rattle.demands.specs.Reading.{extended-told}
@@ -27,7 +26,6 @@ use Rattle.demands.specs.Saying.{numbers_of}
 use Rattle.demands.specs.JudgingLaws.{whole-read, whole-fits}
 use Rattle.record_columns.specs.Columns.{Filling, filling, amount, columns, columns_read, ReadColumns}
 use Rattle.record_columns.specs.Demands.{Good, RefusesInOrder, HoldsTheSame, WritesBack, ReadsBack}
-use Rattle.record_columns.specs.declared.Filled.TheVariants.{Columns, Refused}
 
 -- ---- A good record is one that was read
 
@@ -41,18 +39,18 @@ taken s d count wanted good =
 -- ---- What becomes of the buffer, by the amount
 
 module _ (s : List ℕ) (q : Record) (read : run full_record s ≡ ok q (length s)) (values : List ℤ) where
-  by-amount : (t : Bool) → eqb (length values) (amount q) ≡ t → columns_read (length s) (run full_record s) values ≡ cond t (filling Columns (columns q)) (filling (Refused Amount) values)
+  by-amount : (t : Bool) → eqb (length values) (amount q) ≡ t → columns_read (length s) (run full_record s) values ≡ cond t (filling (Ok tt) (columns q)) (filling (Err Amount) values)
   unfolding columns_read
   by-amount t e = rw (read, le-ltb (length s) (length s) (omega arith), e)
 
-  right-amount : length values ≡ amount q → columns_read (length s) (run full_record s) values ≡ filling Columns (columns q)
+  right-amount : length values ≡ amount q → columns_read (length s) (run full_record s) values ≡ filling (Ok tt) (columns q)
   right-amount h = by-amount true (eq-eqb (length values) (amount q) h)
 
-  wrong-amount : (length values ≡ amount q → ⊥) → columns_read (length s) (run full_record s) values ≡ filling (Refused Amount) values
+  wrong-amount : (length values ≡ amount q → ⊥) → columns_read (length s) (run full_record s) values ≡ filling (Err Amount) values
   wrong-amount h = by-amount false (ne_eqb (length values) (amount q) h)
 
   -- a buffer that was filled holds the columns
-  are-columns : (after : List ℤ) → ReadColumns s values Columns after → after ≡ columns q
+  are-columns : (after : List ℤ) → ReadColumns s values (Ok tt) after → after ≡ columns q
   are-columns after p = go (eqb (length values) (amount q)) refl
     where
       go : (t : Bool) → eqb (length values) (amount q) ≡ t → after ≡ columns q
@@ -61,19 +59,19 @@ module _ (s : List ℕ) (q : Record) (read : run full_record s ≡ ok q (length 
 
 -- ---- The refusals in their order
 
-own-refusal : (bytes : ℕ) (a : Answer Record) (values : List ℤ) (refusal : Refusal) → (judged_whole bytes a).verdict ≡ verdict.Refused refusal → columns_read bytes a values ≡ filling (Refused refusal) values
+own-refusal : (bytes : ℕ) (a : Answer Record) (values : List ℤ) (refusal : Refusal) → (judged_whole bytes a).verdict ≡ Err refusal → columns_read bytes a values ≡ filling (Err refusal) values
 unfolding columns_read judged_whole verdict_from
 own-refusal bytes (ok q n) values refusal e = go (ltb n bytes) e
   where
     rest : Filling
-    rest = cond (eqb (length values) (amount q)) (filling Columns (columns q)) (filling (Refused Amount) values)
+    rest = cond (eqb (length values) (amount q)) (filling (Ok tt) (columns q)) (filling (Err Amount) values)
 
-    go : (t : Bool) → (cond t (unjudged (verdict.Refused (LeftOver n))) (judged (ok q n))).verdict ≡ verdict.Refused refusal
-        → cond t (filling (Refused (LeftOver n)) values) rest ≡ filling (Refused refusal) values
-    go true h = let z : LeftOver n ≡ refusal = cc in ap (λ x. filling (Refused x) values) z
+    go : (t : Bool) → (cond t (unjudged (Err (LeftOver n))) (judged (ok q n))).verdict ≡ Err refusal
+        → cond t (filling (Err (LeftOver n)) values) rest ≡ filling (Err refusal) values
+    go true h = let z : LeftOver n ≡ refusal = cc in ap (λ x. filling (Err x) values) z
     go false h = impossible (cc)
-own-refusal bytes short values refusal e = let z : refusal_of Short ≡ refusal = cc in ap (λ x. filling (Refused x) values) z
-own-refusal bytes (bad k p) values refusal e = let z : refusal_of (Bad k p) ≡ refusal = cc in ap (λ x. filling (Refused x) values) z
+own-refusal bytes short values refusal e = let z : refusal_of Short ≡ refusal = cc in ap (λ x. filling (Err x) values) z
+own-refusal bytes (bad k p) values refusal e = let z : refusal_of (Bad k p) ≡ refusal = cc in ap (λ x. filling (Err x) values) z
 
 module _ (s : List ℕ) (values : List ℤ) (d : Description) (count : ℕ) (wanted : Bool) (good : Good s d count wanted) where
   abbrev the-record : Spoken (run full_record s) d (length s) count wanted

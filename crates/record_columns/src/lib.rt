@@ -9,7 +9,6 @@ ghost use Rattle.record_columns.specs.Columns.{ReadColumns};
 ghost use Rattle.record_columns.specs.Parts.{NumberAt, ChannelFilled, PointsFilled};
 
 use channels::Format;
-use formats::Outcome;
 use orders::Order;
 use refusals::Refusal;
 
@@ -45,12 +44,10 @@ fn fill_channel(
 {
     let mut at = start;
     let mut index = from;
-    let mut i: usize = 0;
-    while i < count {
+    for _ in 0..count {
         values[index] = sample_at(bytes, at, channel);
         at += width;
         index += step;
-        i += 1;
     }
 }
 
@@ -71,46 +68,30 @@ fn fill(
     let stride = orders::stride(order, count);
     let mut at = start;
     let mut from: usize = 0;
-    let mut channel: usize = 0;
-    while channel < 16 {
+    for channel in 0..16 {
         if stored[channel] {
             fill_channel(bytes, at, width, channel, count, values, from, step);
             at += points::sample_size(Format::Full, channel);
             from += stride;
         }
-        channel += 1;
     }
-}
-
-// What became of a buffer that was lent for columns.
-#[derive(Clone, Copy)]
-pub enum Filled {
-    Columns,
-    Refused(Refusal),
 }
 
 // The columns of a record that is a whole slice. Its own refusals come first, and then 13 where the buffer has another amount
 // than its count times its stored channels: on each the buffer is as it was.
-pub fn read_columns(bytes: &[u8], values: &mut [i32]) -> Filled
+pub fn read_columns(bytes: &[u8], values: &mut [i32]) -> Result<(), Refusal>
     ensures { ReadColumns bytes.now values.old result values.new }
 {
-    let heading = record_fronts::front_at(bytes, 0);
-    let front = heading.front;
-    let layout = record_layouts::layout_behind(bytes, heading);
-    let outcome = layout.outcome;
-    match outcome {
-        Outcome::Failed(failure) => Filled::Refused(refusals::of(failure)),
-        Outcome::Done(end) => {
-            if end < bytes.len() {
-                return Filled::Refused(Refusal::LeftOver { place: end });
-            }
-            let stored = front.stored;
-            let count = layout.count as usize;
-            if !orders::is_amount(values.len(), count, orders::size(stored)) {
-                return Filled::Refused(Refusal::Amount);
-            }
-            fill(bytes, front.points, stored, count, values, Order::Column);
-            Filled::Columns
-        }
+    let front = record_fronts::front_at(bytes, 0)?;
+    let layout = record_layouts::layout_behind(bytes, front)?;
+    if layout.end < bytes.len() {
+        return Err(Refusal::LeftOver { place: layout.end });
     }
+    let stored = front.stored;
+    let count = layout.count as usize;
+    if !orders::is_amount(values.len(), count, orders::size(stored)) {
+        return Err(Refusal::Amount);
+    }
+    fill(bytes, front.points, stored, count, values, Order::Column);
+    Ok(())
 }

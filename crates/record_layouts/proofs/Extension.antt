@@ -1,4 +1,5 @@
 -- What the reader of extended data is told as, by the tests of the code.
+use Rattle.std.specs.Prelude.{Ok, Err}
 use mathlib.Core.Path.{◌≡◌, sym, ap, ◌∙◌}
 use mathlib.Core.Logic.{by_cases}
 use mathlib.Core.Bool.{Bool, true, false}
@@ -16,7 +17,6 @@ use Rattle.formats.proofs.NumberLaws.{at-number-short}
 use Rattle.formats.specs.Jump.{Jumps, ends, ends_there, ends-short}
 use Rattle.formats.specs.Told.{told, bind_done, map-told, at-bind-failed}
 use Rattle.formats.specs.declared.Failure.TheVariants.{Short}
-use Rattle.formats.specs.declared.Outcome.TheVariants.{Done, Failed}
 use Rattle.records.specs.Record.{extension}
 
 -- free bytes are passed over
@@ -29,11 +29,11 @@ free-jumps n s at h =
     (λ q. ap told (at-free n s at (omega arith)) ∙ sym (ends_there s at n (omega arith)))
 
 module _ (s : List ℕ) (at : ℕ) (announced : Bool) where
-  pub no-extension : announced ≡ false → told (read_at (extension announced) s at) ≡ Done at
+  pub no-extension : announced ≡ false → told (read_at (extension announced) s at) ≡ Ok at
   unfolding extension told
   no-extension e = rw e (ap told (at_done _ s at))
 
-  pub extension-short : announced ≡ true → length s - at < 2 → told (read_at (extension announced) s at) ≡ Failed Short
+  pub extension-short : announced ≡ true → length s - at < 2 → told (read_at (extension announced) s at) ≡ Err Short
   unfolding extension told
   extension-short e h = rw e (ap told (at-bind-failed (number 2) _ s at Short (at-number-short 2 s at h)))
 

@@ -1,5 +1,5 @@
 -- Where the parts of a record lie is what reading the record answers: the layout ends as reading does, and its places are those of the record's parts.
-use Rattle.std.specs.Prelude.{◌≡◌, Bool, true, false, List, [], ℕ, ◌+◌, ◌≤◌, ℤ, length, take, drop}
+use Rattle.std.specs.Prelude.{◌≡◌, Bool, true, false, List, [], ℕ, ◌+◌, ◌≤◌, ℤ, length, take, drop, Result, Ok, Err}
 use Rattle.std.proofs.Math.Path.{refl, ap}
 use Rattle.std.proofs.Common.{sym, ◌∙◌, arith, length-drop, length-take-le}
 use Rattle.std.proofs.Math.Logic.{by_cases}
@@ -9,19 +9,18 @@ use Rattle.formats.specs.Bytes.{impossible}
 use Rattle.formats.specs.Reader.{Answer, ok, short, bad, done, and_then, read_at, run, bind, times, free}
 use Rattle.formats.specs.Compose.{at-start, at-bind, at_done, at-bind-ok, at-free}
 use Rattle.formats.proofs.Ends.{at-within, at-free-short}
-use Rattle.formats.specs.declared.Failure.TheVariants.{Short}
+use Rattle.formats.specs.declared.Failure.TheVariants.{Short, Bad}
 use Rattle.formats.specs.Number.{number, value, at-number}
 use Rattle.formats.proofs.NumberLaws.{at-number-short}
 use Rattle.formats.specs.Fixed.{times-length}
-use Rattle.formats.specs.Told.{told, failed, told-failed, at-bind-failed}
+use Rattle.formats.specs.Told.{told, failed, answered, at-bind-failed, then_told}
 use Rattle.formats.specs.declared.Failure.{Failure}
-use Rattle.formats.specs.declared.Outcome.TheVariants.{Done, Failed}
 use Rattle.points.specs.Points.{point}
 use Rattle.channels.specs.Descriptors.{included, stored}
 use Rattle.records.specs.Record.{Record, extension, full_record, present, extended_bytes}
 use Rattle.record_fronts.specs.Front.{Heading, front, body, in_two}
-use Rattle.record_fronts.specs.Fronted.{front_of, front_in, fronted}
-use Rattle.record_layouts.specs.Layout.{no_layout, behind, layout_behind, layout_at}
+use Rattle.record_fronts.specs.Fronted.{front_of, fronted}
+use Rattle.record_layouts.specs.Layout.{layout_behind, layout_at}
 use Rattle.record_fronts.specs.declared.Front.{Front}
 use Rattle.record_layouts.specs.declared.Layout.{Layout}
 
@@ -63,8 +62,7 @@ extension-ends s false at {extra} {end} h e =
 
 -- ---- The layout of a record
 
-pub record Lying (s : List ℕ) (h : Front) (l : Layout) (r : Record) (end : ℕ) : Type 0 where
-  pub outcome : l.outcome ≡ Done end
+pub record Lying (s : List ℕ) (h : Front) (l : Layout) (r : Record) : Type 0 where
   pub counted : h.count ≡ l.count
   pub announced : h.announced ≡ l.announced
   pub includes : h.included ≡ included r.description
@@ -72,49 +70,68 @@ pub record Lying (s : List ℕ) (h : Front) (l : Layout) (r : Record) (end : ℕ
   pub count : length r.points ≡ l.count
   pub within : h.points ≤ length s
   pub points : read_at (times l.count (point 2 (stored r.description))) s h.points ≡ ok r.points l.extension
-  pub extension : Ends s l.announced l.extension r.extended end
-  pub extended-within : (l.extension ≤ end) × (end ≤ length s)
+  pub extension : Ends s l.announced l.extension r.extended l.end
+  pub extended-within : (l.extension ≤ l.end) × (l.end ≤ length s)
 
--- the layout is that of the record that was read, behind its front, or ends as reading did
-unfoldable pub Agrees : List ℕ → Front → Answer Record → Layout → Type 0
-Agrees s h (ok r end) l = Lying s h l r end
-Agrees s h short l = l ≡ no_layout (told {A = Record} short)
-Agrees s h (bad k p) l = l ≡ no_layout (told {A = Record} (bad k p))
+-- a front and the layout behind it that are those of a record that was read
+pub record Laid (s : List ℕ) (h : Result Front Failure) (x : Result Layout Failure) (r : Record) (end : ℕ) : Type 0 where
+  pub front : Front
+  pub layout : Layout
+  pub fronts : h ≡ Ok front
+  pub lays : x ≡ Ok layout
+  pub ends : layout.end ≡ end
+  pub lying : Lying s front layout r
+
+-- the layout is that of the record that was read, behind its front, or the failure that reading ended in
+unfoldable pub Agrees : List ℕ → Result Front Failure → Answer Record → Result Layout Failure → Type 0
+Agrees s h (ok r end) x = Laid s h x r end
+Agrees s h short x = x ≡ Err Short
+Agrees s h (bad k p) x = x ≡ Err (Bad k p)
 
 module _ (s : List ℕ) where
   module _ (f : Heading) (at : ℕ) (within : at ≤ length s) where
     abbrev made : List (List ℤ) → Option (List ℕ) → Record
     made points extended = record { description = f.description; points = points; extended = extended }
 
+    abbrev behind-points : (next : ℕ) → Result Layout Failure
+    behind-points next =
+        then_told (told (read_at (extension f.announced) s next)) (λ end. Ok (record { announced = f.announced; count = f.count; extension = next; end = end }))
+
     -- behind the points
     module _ (points : List (List ℤ)) (next : ℕ) (e : read_at (times f.count (point 2 (stored f.description))) s at ≡ ok points next) where
       by-extension : (x : Answer (Option (List ℕ))) → read_at (extension f.announced) s next ≡ x
-          → Agrees s (front_of f at) (and_then x (λ extra end. read_at (done (made points extra)) s end))
-          (behind (told x) (λ end. record { outcome = Done end; announced = f.announced; count = f.count; extension = next }))
-      unfolding Agrees and_then behind told
+          → Agrees s (Ok (front_of f at)) (and_then x (λ extra end. read_at (done (made points extra)) s end))
+          (then_told (told x) (λ end. Ok (record { announced = f.announced; count = f.count; extension = next; end = end })))
+      unfolding Agrees and_then then_told told
       by-extension (ok extra end) g =
           let w = at-within (times f.count (point 2 (stored f.description))) s at e within in
           rw (at_done (made points extra) s end)
           (record {
-            outcome = refl;
-            counted = refl;
-            announced = refl;
-            includes = refl;
-            stores = refl;
-            count = times-length (point 2 (stored f.description)) s f.count at e;
-            within = within;
-            points = e;
-            extension = extension-ends s f.announced next w.1 g;
-            extended-within = at-within (extension f.announced) s next g w.1;
+            front = front_of f at;
+            layout = record { announced = f.announced; count = f.count; extension = next; end = end };
+            fronts = refl;
+            lays = refl;
+            ends = refl;
+            lying = record {
+              counted = refl;
+              announced = refl;
+              includes = refl;
+              stores = refl;
+              count = times-length (point 2 (stored f.description)) s f.count at e;
+              within = within;
+              points = e;
+              extension = extension-ends s f.announced next w.1 g;
+              extended-within = at-within (extension f.announced) s next g w.1;
+            };
           })
       by-extension short g = refl
       by-extension (bad k p) g = refl
 
     -- behind the front
     by-points : (x : Answer (List (List ℤ))) → read_at (times f.count (point 2 (stored f.description))) s at ≡ x
-        → Agrees s (front_of f at) (and_then x (λ points next. read_at (bind (extension f.announced) (λ extra. done (made points extra))) s next))
-        (behind (told x) (λ next. behind (told (read_at (extension f.announced) s next)) (λ end. record { outcome = Done end; announced = f.announced; count = f.count; extension = next })))
-    unfolding Agrees and_then behind told
+        → Agrees s (Ok (front_of f at)) (and_then x (λ points next. read_at (bind (extension f.announced) (λ extra. done (made points extra))) s next))
+        (then_told (told x) behind-points)
+    unfolding Agrees and_then then_told told
     by-points (ok points next) e =
         rw (at-bind (λ extra. done (made points extra)) (extension f.announced) s next)
         (by-extension points next e (read_at (extension f.announced) s next) refl)
@@ -122,8 +139,8 @@ module _ (s : List ℕ) where
     by-points (bad k p) e = refl
 
   module _ (start : ℕ) (inside : start ≤ length s) where
-    by_front : (x : Answer Heading) → read_at front s start ≡ x → Agrees s (front_in x) (and_then x (λ f at. read_at (body f) s at)) (layout_behind s (fronted x))
-    unfolding Agrees and_then layout_behind behind front_in told body
+    by_front : (x : Answer Heading) → read_at front s start ≡ x → Agrees s (fronted x) (and_then x (λ f at. read_at (body f) s at)) (then_told (fronted x) (layout_behind s))
+    unfolding Agrees and_then layout_behind then_told answered body
     by_front (ok f at) e =
         let w = (at-within front s start e inside).1 in
         rw (at-bind (λ points. bind (extension f.announced) (λ extra. done (made f at w points extra))) (times f.count (point 2 (stored f.description))) s at)
@@ -131,65 +148,83 @@ module _ (s : List ℕ) where
     by_front short e = refl
     by_front (bad k p) e = refl
 
-    agrees : Agrees s (front_in (read_at front s start)) (read_at full_record s start) (layout_at s start)
+    agrees : Agrees s (fronted (read_at front s start)) (read_at full_record s start) (layout_at s start)
     unfolding layout_at
     agrees = rw (ap (λ r. read_at r s start) in_two ∙ at-bind body front s start) (by_front (read_at front s start) refl)
 
--- ---- Reading, by how the layout ended
+-- ---- The layout, by its front
 
-module _ (s : List ℕ) (start : ℕ) (inside : start ≤ length s) (l : Layout) (e : l ≡ layout_at s start) where
-  abbrev heading : Front
-  heading = front_in (read_at front s start)
+module _ (s : List ℕ) (start : ℕ) where
+  -- behind the front that is there, or the front's own failure
+  pub fronted-layout : {h : Front} {x : Result Layout Failure} → fronted (read_at front s start) ≡ Ok h → x ≡ layout_behind s h → layout_at s start ≡ x
+  unfolding layout_at then_told
+  fronted-layout q e = ap (λ y. then_told y (layout_behind s)) q ∙ sym e
 
-  of-layout : (x : Answer Record) → read_at full_record s start ≡ x → Agrees s heading x l
-  of-layout x q = rw (← q, e) (agrees s start inside)
+  pub unfronted-layout : {f : Failure} → fronted (read_at front s start) ≡ Err f → layout_at s start ≡ Err f
+  unfolding layout_at then_told
+  unfronted-layout q = ap (λ y. then_told y (layout_behind s)) q
 
-  whole_of : (x : Answer Record) → read_at full_record s start ≡ x → Agrees s heading x l → {end : ℕ} → l.outcome ≡ Done end → (r : Record) × (read_at full_record s start ≡ ok r end) × Lying s heading l r end
-  unfolding Agrees told
-  whole_of (ok r n) q f {end} o =
-      let g = f.outcome in
-      let z : n ≡ end = cc in
-      (r, q ∙ ap (ok r) z, rw z at f)
-  whole_of short q f o = impossible (cc (ap (λ y. y.outcome) f))
-  whole_of (bad k p) q f o = impossible (cc (ap (λ y. y.outcome) f))
+-- ---- Reading, by what the layout is
 
-  -- a layout that ended well is that of a record
-  pub record-lies : {end : ℕ} → l.outcome ≡ Done end → (r : Record) × (read_at full_record s start ≡ ok r end) × Lying s heading l r end
-  record-lies o = whole_of (read_at full_record s start) refl (of-layout (read_at full_record s start) refl) o
+one-layout : {l m : Layout} → ◌≡◌ {A = Result Layout Failure} (Ok l) (Ok m) → l ≡ m
+one-layout e = cc
 
-  ends_as : (x : Answer Record) → Agrees s heading x l → l.outcome ≡ told x
-  unfolding Agrees told
-  ends_as (ok r n) f = f.outcome
-  ends_as short f = ap (λ y. y.outcome) f
-  ends_as (bad k p) f = ap (λ y. y.outcome) f
+one-front : {h k : Front} → ◌≡◌ {A = Result Front Failure} (Ok h) (Ok k) → h ≡ k
+one-front e = cc
 
-  -- and one that failed ended as reading did
-  pub failed-lies : {f : Failure} → l.outcome ≡ Failed f → read_at full_record s start ≡ failed f
-  failed-lies o = told-failed (read_at full_record s start) (sym o ∙ ends_as (read_at full_record s start) (of-layout (read_at full_record s start) refl))
+module _ (s : List ℕ) (start : ℕ) (inside : start ≤ length s) where
+  of-layout : (x : Answer Record) → read_at full_record s start ≡ x → Agrees s (fronted (read_at front s start)) x (layout_at s start)
+  of-layout x q = rw (← q) (agrees s start inside)
 
-  nothing-of : (x : Answer Record) → Agrees s heading x l → {f : Failure} → l.outcome ≡ Failed f → l.count ≡ 0
-  unfolding Agrees told
-  nothing-of (ok r n) g o = impossible (cc g.outcome)
-  nothing-of short g o = ap (λ y. y.count) g
-  nothing-of (bad k p) g o = ap (λ y. y.count) g
+  module _ {l : Layout} where
+    whole_of : (x : Answer Record) → read_at full_record s start ≡ x → Agrees s (fronted (read_at front s start)) x (layout_at s start) → layout_at s start ≡ Ok l
+        → (r : Record) × (read_at full_record s start ≡ ok r l.end) × (h : Front) × (fronted (read_at front s start) ≡ Ok h) × Lying s h l r
+    unfolding Agrees
+    whole_of (ok r n) q g e =
+        let z : g.layout ≡ l = one-layout (sym g.lays ∙ e) in
+        rw (← z) (r, q ∙ ap (ok r) (sym g.ends), g.front, g.fronts, g.lying)
+    whole_of short q g e = impossible (cc)
+    whole_of (bad k p) q g e = impossible (cc)
 
-  -- with no points
-  pub failed-count : {f : Failure} → l.outcome ≡ Failed f → l.count ≡ 0
-  failed-count o = nothing-of (read_at full_record s start) (of-layout (read_at full_record s start) refl) o
+    -- a layout is that of a record
+    pub record-lies : layout_at s start ≡ Ok l → (r : Record) × (read_at full_record s start ≡ ok r l.end) × (h : Front) × (fronted (read_at front s start) ≡ Ok h) × Lying s h l r
+    record-lies e = whole_of (read_at full_record s start) refl (of-layout (read_at full_record s start) refl) e
+
+  fails_as : (x : Answer Record) → Agrees s (fronted (read_at front s start)) x (layout_at s start) → {f : Failure} → layout_at s start ≡ Err f → x ≡ failed f
+  unfolding Agrees
+  fails_as (ok r n) g e = impossible (cc g.lays)
+  fails_as short g {f} e = ap failed {x = Short} {y = f} (cc)
+  fails_as (bad k p) g {f} e = ap failed {x = Bad k p} {y = f} (cc)
+
+  -- and where there is none, reading failed so
+  pub failed-lies : {f : Failure} → layout_at s start ≡ Err f → read_at full_record s start ≡ failed f
+  failed-lies e = fails_as (read_at full_record s start) (of-layout (read_at full_record s start) refl) e
 
 -- ---- The record that some bytes begin with
 
-module _ (s : List ℕ) (l : Layout) (e : l ≡ layout_at s 0) where
-  pub record-read : {end : ℕ} → l.outcome ≡ Done end → (r : Record) × (run full_record s ≡ ok r end) × Lying s (front_in (read_at front s 0)) l r end
-  record-read o = let x = record-lies s 0 (omega arith) l e o in (x.0, sym (at-start full_record s) ∙ x.1, x.2)
+module _ (s : List ℕ) where
+  module _ {l : Layout} (e : layout_at s 0 ≡ Ok l) where
+    pub record-read : (r : Record) × (run full_record s ≡ ok r l.end) × (h : Front) × (fronted (read_at front s 0) ≡ Ok h) × Lying s h l r
+    record-read = let x = record-lies s 0 (omega arith) e in (x.0, sym (at-start full_record s) ∙ x.1, x.2, x.3, x.4)
+
+    -- it lies behind its front
+    pub record-behind : {h : Front} → fronted (read_at front s 0) ≡ Ok h → (r : Record) × (run full_record s ≡ ok r l.end) × Lying s h l r
+    record-behind {h} q =
+        let x = record-read in
+        let z : x.2 ≡ h = one-front (sym x.3 ∙ q) in
+        rw (← z) (x.0, x.1, x.4)
 
   -- and of a record that was read it is the layout
-  pub read-lies : {r : Record} {end : ℕ} → run full_record s ≡ ok r end → Lying s (front_in (read_at front s 0)) l r end
+  pub read-lies : {r : Record} {end : ℕ} → run full_record s ≡ ok r end → Laid s (fronted (read_at front s 0)) (layout_at s 0) r end
   unfolding Agrees
-  read-lies {r} {end} q = of-layout s 0 (omega arith) l e (ok r end) (at-start full_record s ∙ q)
+  read-lies {r} {end} q = of-layout s 0 (omega arith) (ok r end) (at-start full_record s ∙ q)
 
-  pub failed-read : {f : Failure} → l.outcome ≡ Failed f → run full_record s ≡ failed f
-  failed-read o = sym (at-start full_record s) ∙ failed-lies s 0 (omega arith) l e o
+  pub read-behind : {r : Record} {end : ℕ} {h : Front} → run full_record s ≡ ok r end → fronted (read_at front s 0) ≡ Ok h
+      → (l : Layout) × (layout_at s 0 ≡ Ok l) × (l.end ≡ end) × Lying s h l r
+  read-behind {h = h} q e =
+      let x = read-lies q in
+      let z : x.front ≡ h = one-front (sym x.fronts ∙ e) in
+      rw (← z) (x.layout, x.lays, x.ends, x.lying)
 
-  pub none-counted : {f : Failure} → l.outcome ≡ Failed f → l.count ≡ 0
-  none-counted o = failed-count s 0 (omega arith) l e o
+  pub failed-read : {f : Failure} → layout_at s 0 ≡ Err f → run full_record s ≡ failed f
+  failed-read e = sym (at-start full_record s) ∙ failed-lies s 0 (omega arith) e

@@ -7,23 +7,19 @@ ghost use Rattle.formats.specs.Part.{Part};
 ghost use Rattle.records.specs.Record.{full_record};
 ghost use Rattle.record_parts.specs.Parts.{extended_place, extended_size, rest_place, rest_size};
 
-use formats::Outcome;
-
 // The extended data of the record that some bytes begin with: the caller's own bytes. Empty at the record's end where it has none,
 // and at the start where there is no record.
 pub fn extended<'a>(bytes: &'a [u8]) -> &'a [u8]
     ensures { Part bytes.entry result (extended_place (run full_record bytes.now)) (extended_size (run full_record bytes.now)) }
 {
-    let layout = record_layouts::layout_at(bytes, 0);
-    let outcome = layout.outcome;
-    let Outcome::Done(end) = outcome else {
+    let Ok(layout) = record_layouts::layout_at(bytes, 0) else {
         return &bytes[0..0];
     };
     if layout.announced {
         let start = layout.extension + 2;
-        &bytes[start..end]
+        &bytes[start..layout.end]
     } else {
-        &bytes[end..end]
+        &bytes[layout.end..layout.end]
     }
 }
 
@@ -31,10 +27,8 @@ pub fn extended<'a>(bytes: &'a [u8]) -> &'a [u8]
 pub fn rest<'a>(bytes: &'a [u8]) -> &'a [u8]
     ensures { Part bytes.entry result (rest_place (run full_record bytes.now)) (rest_size (length bytes.now) (run full_record bytes.now)) }
 {
-    let layout = record_layouts::layout_at(bytes, 0);
-    let outcome = layout.outcome;
-    let Outcome::Done(end) = outcome else {
+    let Ok(layout) = record_layouts::layout_at(bytes, 0) else {
         return &bytes[0..0];
     };
-    &bytes[end..]
+    &bytes[layout.end..]
 }

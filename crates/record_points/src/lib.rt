@@ -7,48 +7,35 @@ ghost use Rattle.records.specs.Record.{full_record};
 ghost use Rattle.record_points.specs.Pointing.{pointed_at, places_in};
 
 use channels::{Format, Place};
-use formats::Outcome;
 use refusals::Refusal;
 
-// Whether a record has a point of some index, counted from 0.
-#[derive(Clone, Copy)]
-pub enum Pointed {
-    Point,
-    Refused(Refusal),
-}
-
 // The front is judged first; bytes behind the record are allowed.
-pub fn judge_point(bytes: &[u8], index: usize) -> Pointed
+pub fn judge_point(bytes: &[u8], index: usize) -> Result<(), Refusal>
     ensures { result ≡ pointed_at index (run full_record bytes.now) }
 {
-    let layout = record_layouts::layout_at(bytes, 0);
-    let outcome = layout.outcome;
-    if let Outcome::Failed(failure) = outcome {
-        return Pointed::Refused(refusals::of(failure));
-    }
+    let layout = record_layouts::layout_at(bytes, 0)?;
     if index < (layout.count as usize) {
-        Pointed::Point
+        Ok(())
     } else {
-        Pointed::Refused(Refusal::NoPoint)
+        Err(Refusal::NoPoint)
     }
 }
 
-// One sample point as sixteen places, all absent where there is no such point: it is then read by the flags of no channel.
+// One sample point as sixteen places, all absent where there is no such point.
 // The points have one width, so each has its share of their bytes.
 pub fn point(bytes: &[u8], index: usize) -> [Place; 16]
     ensures { result ≡ places_in index (run full_record bytes.now) }
 {
-    let heading = record_fronts::front_at(bytes, 0);
-    let front = heading.front;
-    let layout = record_layouts::layout_behind(bytes, heading);
+    let Ok(front) = record_fronts::front_at(bytes, 0) else {
+        return [Place::Absent; 16];
+    };
+    let Ok(layout) = record_layouts::layout_behind(bytes, front) else {
+        return [Place::Absent; 16];
+    };
     let count = layout.count as usize;
-    let mut included = [false; 16];
-    let mut stored = [false; 16];
-    let mut start: usize = 0;
-    if index < count {
-        included = front.included;
-        stored = front.stored;
-        start = front.points + index * ((layout.extension - front.points) / count);
+    if count <= index {
+        return [Place::Absent; 16];
     }
-    point_places::places(bytes, start, Format::Full, included, stored)
+    let start = front.points + index * ((layout.extension - front.points) / count);
+    point_places::places(bytes, start, Format::Full, front.included, front.stored)
 }

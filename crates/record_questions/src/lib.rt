@@ -1,49 +1,47 @@
 // The questions of some bytes as a record or as a file of records: each is asked of the library, and answered.
 #![tactic(auto)]
 
-use record_points::Pointed;
-use record_reading::Verdict;
+use texts::Text;
 
-pub fn judge(text: &mut [u8; 65536], start: u16, bytes: &[u8], whole: bool) -> u16 {
+pub fn judge(text: &mut Text, bytes: &[u8], whole: bool) {
     let judged = if whole {
         record_reading::judge_whole(bytes)
     } else {
         record_reading::judge(bytes)
     };
     let verdict = judged.verdict;
-    let used = answers::put(text, start, answers::of_verdict(verdict));
-    if let Verdict::Refused(_) = verdict {
-        return used;
+    answers::put(text, answers::of_verdict(verdict));
+    if let Err(_) = verdict {
+        return;
     }
-    sayings::put_description(text, used, judged.description)
+    sayings::put_description(text, judged.description);
 }
 
-fn put_bytes(text: &mut [u8; 65536], start: u16, bytes: &[u8]) -> u16 {
-    let used = texts::put_bytes(text, start, b"bytes ");
-    texts::put_hex(text, used, bytes)
+fn put_bytes(text: &mut Text, bytes: &[u8]) {
+    text.put_bytes(b"bytes ");
+    text.put_hex(bytes);
 }
 
-pub fn extended(text: &mut [u8; 65536], used: u16, bytes: &[u8]) -> u16 {
-    put_bytes(text, used, record_parts::extended(bytes))
+pub fn extended(text: &mut Text, bytes: &[u8]) {
+    put_bytes(text, record_parts::extended(bytes));
 }
 
-pub fn rest(text: &mut [u8; 65536], used: u16, bytes: &[u8]) -> u16 {
-    put_bytes(text, used, record_parts::rest(bytes))
+pub fn rest(text: &mut Text, bytes: &[u8]) {
+    put_bytes(text, record_parts::rest(bytes));
 }
 
-pub fn point(text: &mut [u8; 65536], start: u16, bytes: &[u8], index: usize) -> u16 {
+pub fn point(text: &mut Text, bytes: &[u8], index: usize) {
     let pointed = record_points::judge_point(bytes, index);
-    let used = answers::put(text, start, answers::of_pointed(pointed));
-    if let Pointed::Point = pointed {
-        return answers::put_places(text, used, record_points::point(bytes, index));
+    answers::put(text, answers::of_pointed(pointed));
+    if let Ok(()) = pointed {
+        answers::put_places(text, record_points::point(bytes, index));
     }
-    used
 }
 
-pub fn step(text: &mut [u8; 65536], start: u16, file: &[u8], place: usize) -> u16 {
+pub fn step(text: &mut Text, file: &[u8], place: usize) {
     let step = walks::step_at(file, place);
     let found = step.found;
-    let used = answers::put(text, start, answers::of_found(found));
-    let used = texts::put_bytes(text, used, b" next");
-    texts::put_field(text, used, step.next as u64)
+    answers::put(text, answers::of_found(found));
+    text.put_bytes(b" next");
+    text.put_field(step.next as u64);
 }

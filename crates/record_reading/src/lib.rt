@@ -1,71 +1,61 @@
 // Bytes judged as full records of ISO/IEC 19794-7:2007 (clause 7).
 #![tactic(auto)]
 
-ghost use Rattle.std.specs.Prelude.{◌≡◌, List, ℕ, ◌≤◌, length};
+ghost use Rattle.std.specs.Prelude.{◌≡◌, ℕ, ◌≤◌, length, Ok};
 ghost use Rattle.formats.specs.Reader.{read_at, run};
 ghost use Rattle.formats.specs.Told.{told};
-ghost use Rattle.formats.specs.declared.Outcome.TheVariants.{Done};
 ghost use Rattle.records.specs.Record.{full_record};
 ghost use Rattle.identifications.specs.Identification.{identification};
-ghost use Rattle.record_layouts.specs.Layout.{layout_at};
-ghost use Rattle.record_reading.specs.Verdict.{verdict_from, judged, unjudged, judged_whole};
+ghost use Rattle.descriptions.specs.Description.{description};
+ghost use Rattle.descriptions.specs.Read.{described};
+ghost use Rattle.channels.specs.declared.Format.TheVariants.{Full};
+ghost use Rattle.record_reading.specs.Verdict.{verdict_from, extent_of, judged, unjudged, judged_whole};
 
 use channels::{Description, Format};
-use descriptions::Measured;
-use formats::Outcome;
+use descriptions::{Described, Measured};
 use record_layouts::Layout;
 use refusals::Refusal;
 
-// What is judged of some bytes.
+// How far a record reaches: its length, how many points it has, and whether extended data are present.
 #[derive(Clone, Copy)]
-pub enum Verdict {
-    Record {
-        length: usize,
-        count: u32,
-        extended: bool,
-    },
-    Refused(Refusal),
+pub struct Extent {
+    pub length: usize,
+    pub count: u32,
+    pub extended: bool,
 }
 
 // A verdict, and the record's tidy description, which says nothing of any channel where there is no record.
 #[derive(Clone, Copy)]
 pub struct Judged {
-    pub verdict: Verdict,
+    pub verdict: Result<Extent, Refusal>,
     pub description: Description,
 }
 
-// The verdict on a record that lies so.
-fn verdict_on(layout: Layout, start: usize) -> Verdict
-    requires { (end : ℕ) → layout.outcome ≡ Done end → start ≤ end }
-    ensures { (s : List ℕ) → start ≤ length s → layout ≡ layout_at s start → result ≡ verdict_from start (read_at full_record s start) }
+// How far a record that lies so reaches.
+fn extent_of(layout: Layout, start: usize) -> Extent
+    requires { start ≤ layout.end }
+    ensures { result ≡ extent_of start layout }
 {
-    let outcome = layout.outcome;
-    match outcome {
-        Outcome::Done(end) => {
-            let length = end - start;
-            Verdict::Record {
-                length: length,
-                count: layout.count,
-                extended: layout.announced,
-            }
-        }
-        Outcome::Failed(failure) => Verdict::Refused(refusals::of(failure)),
+    Extent {
+        length: layout.end - start,
+        count: layout.count,
+        extended: layout.announced,
     }
 }
 
 // What stands from a place on: whether it is a record. A refusal's place counts from the start of the bytes.
-pub fn verdict_at(bytes: &[u8], start: usize) -> Verdict
+pub fn verdict_at(bytes: &[u8], start: usize) -> Result<Extent, Refusal>
     ensures { result ≡ verdict_from start (read_at full_record bytes.now start) }
 {
     if bytes.len() < start {
-        return Verdict::Refused(Refusal::Short);
+        return Err(Refusal::Short);
     }
-    let layout = record_layouts::layout_at(bytes, start);
-    verdict_on(layout, start)
+    let layout = record_layouts::layout_at(bytes, start)?;
+    Ok(extent_of(layout, start))
 }
 
 // A verdict, where there is no record.
-fn unjudged(verdict: Verdict) -> Judged
+fn unjudged(verdict: Result<Extent, Refusal>) -> Judged
     ensures { result ≡ unjudged verdict }
 {
     let description = descriptions::nothing(Format::Full);
@@ -81,35 +71,41 @@ pub fn judge(bytes: &[u8]) -> Judged
 {
     let identified = identifications::end(bytes, 0);
     match identified {
-        Outcome::Done(at) => judge_behind(bytes, at),
-        Outcome::Failed(failure) => unjudged(Verdict::Refused(refusals::of(failure))),
+        Ok(at) => judge_behind(bytes, at),
+        Err(failure) => unjudged(Err(refusals::of(failure))),
     }
 }
 
 // The same, behind the identifier and the version.
 fn judge_behind(bytes: &[u8], at: usize) -> Judged
-    ensures { Done at ≡ told (read_at identification bytes.now 0) → result ≡ judged (run full_record bytes.now) }
+    ensures { told (read_at identification bytes.now 0) ≡ Ok at → result ≡ judged (run full_record bytes.now) }
 {
-    let described = descriptions::read(bytes, at, Format::Full);
-    let description = described.description;
-    let outcome = described.outcome;
-    let included = described.included;
-    let stored = described.stored;
+    match descriptions::read(bytes, at, Format::Full) {
+        Ok(header) => match extent_behind(bytes, header) {
+            Ok(extent) => Judged {
+                verdict: Ok(extent),
+                description: header.description,
+            },
+            Err(refusal) => unjudged(Err(refusal)),
+        },
+        Err(failure) => unjudged(Err(refusals::of(failure))),
+    }
+}
+
+// How far a record reaches that stands at the start, behind its description.
+fn extent_behind(bytes: &[u8], header: Described) -> Result<Extent, Refusal>
+    ensures { (at : ℕ) → told (read_at identification bytes.now 0) ≡ Ok at → described (read_at (description Full) bytes.now at) ≡ Ok header → result ≡ verdict_from 0 (read_at full_record bytes.now 0) }
+{
+    let included = header.included;
+    let stored = header.stored;
     let measured = Measured {
-        outcome: outcome,
+        end: header.end,
         included: included,
         stored: stored,
     };
-    let heading = record_fronts::front_behind(bytes, measured);
-    let layout = record_layouts::layout_behind(bytes, heading);
-    let verdict = verdict_on(layout, 0);
-    if let Verdict::Refused(_) = verdict {
-        return unjudged(verdict);
-    }
-    Judged {
-        verdict: verdict,
-        description: description,
-    }
+    let front = record_fronts::front_behind(bytes, measured)?;
+    let layout = record_layouts::layout_behind(bytes, front)?;
+    Ok(extent_of(layout, 0))
 }
 
 // A whole slice: the same, and nothing may follow.
@@ -118,16 +114,12 @@ pub fn judge_whole(bytes: &[u8]) -> Judged
 {
     let front = judge(bytes);
     let verdict = front.verdict;
-    let Verdict::Record {
-        length,
-        count: _,
-        extended: _,
-    } = verdict
-    else {
+    let Ok(extent) = verdict else {
         return front;
     };
+    let length = extent.length;
     if length < bytes.len() {
-        return unjudged(Verdict::Refused(Refusal::LeftOver { place: length }));
+        return unjudged(Err(Refusal::LeftOver { place: length }));
     }
     front
 }

@@ -1,5 +1,5 @@
 -- The same values in either order are one record, and each stage says the same of them: so they are written the same.
-use Rattle.std.specs.Prelude.{◌≡◌, refl, Bool, true, false, not, ◌&&◌, List, ℕ, leb, ltb, ℤ, length}
+use Rattle.std.specs.Prelude.{◌≡◌, refl, Bool, true, false, not, ◌&&◌, List, ℕ, leb, ltb, ℤ, length, Result, Ok, Err, ⊤}
 use Rattle.std.proofs.Common.{sym, ◌∙◌, inl}
 use Rattle.std.proofs.Math.Path.{ap}
 use Rattle.std.proofs.Math.Bool.{cond}
@@ -11,8 +11,6 @@ use Rattle.refusals.specs.Stages.{stages}
 use Rattle.refusals.specs.declared.Quantity.TheVariants.{Count}
 use Rattle.refusals.specs.declared.Refusal.{Refusal}
 use Rattle.refusals.specs.declared.Refusal.TheVariants.{OutOfRange, ExtendedSize, Room}
-use Rattle.refusals.specs.declared.Judgement.{Judgement}
-use Rattle.refusals.specs.declared.Judgement.TheVariants.{Passed, Refused}
 use Rattle.channels.specs.declared.Description.{Description}
 use Rattle.description_judging.specs.Judging as described
 use Rattle.description_judging.proofs.NamingLaws.{names-given}
@@ -26,12 +24,10 @@ use Rattle.channels.specs.declared.Format.TheVariants.{Full}
 use Rattle.records.specs.Record.{encode}
 use Rattle.record_writing.specs.Write.{record_in, count_fits, numbers_judged, judgement_in, put_where, write_in}
 use Rattle.record_writing.specs.BothOrders.{SameWriting, WritesTheSame}
-use Rattle.record_writing.specs.declared.Written.{Written}
-use Rattle.record_writing.specs.declared.Written.TheVariants as written
 
 -- a description names no sample value
-no_value : (d : Description) (refusal : Refusal) → described.judgement_of Full d ≡ Refused refusal → NamesNoValue refusal
-no_value d refusal e at channel q = let x = names-given Full d _ (sym (e ∙ ap Refused q)) in impossible (cc x.is)
+no_value : (d : Description) (refusal : Refusal) → described.judgement_of Full d ≡ Err refusal → NamesNoValue refusal
+no_value d refusal e at channel q = let x = names-given Full d _ (sym (e ∙ ap Err q)) in impossible (cc x.is)
 
 module _ (d : Description) (count : ℕ) (rows columns : List ℤ) (wanted : Bool) (extended : List ℕ)
     (many : length rows ≡ length columns) (same : Same count (size (stored d)) rows columns) where
@@ -51,19 +47,19 @@ module _ (d : Description) (count : ℕ) (rows columns : List ℤ) (wanted : Boo
       let by-size = same_test count k small ExtendedSize (λ at channel e. impossible (cc)) in
       search (same-behind, by-description, by-count, by-values, by-size)
 
-  put : (bytes out : List ℕ) (a b : Judgement) → SameJudgement count k a b → SameWriting count k (put_where bytes out a) (put_where bytes out b)
+  put : (bytes out : List ℕ) (a b : Result ⊤ Refusal) → SameJudgement count k a b → SameWriting count k (put_where bytes out a) (put_where bytes out b)
   unfolding put_where
-  put bytes out Passed Passed h = go (leb (length bytes) (length out))
+  put bytes out (Ok _) (Ok _) h = go (leb (length bytes) (length out))
     where
-      room : (t : Bool) → Writing Written
-      room t = cond t (writing (written.Record (length bytes)) (puts out 0 bytes)) (writing (written.Refused Room) out)
+      room : (t : Bool) → Writing (Result ℕ Refusal)
+      room t = cond t (writing (Ok (length bytes)) (puts out 0 bytes)) (writing (Err Room) out)
 
       go : (t : Bool) → SameWriting count k (room t) (room t)
       go true = record { answer = refl; bytes = refl }
       go false = record { answer = inl (refl, λ at channel e. impossible (cc)); bytes = refl }
-  put bytes out Passed (Refused y) h = absurd h
-  put bytes out (Refused x) Passed h = absurd h
-  put bytes out (Refused x) (Refused y) h = record { answer = h; bytes = refl }
+  put bytes out (Ok _) (Err y) h = absurd h
+  put bytes out (Err x) (Ok _) h = absurd h
+  put bytes out (Err x) (Err y) h = record { answer = h; bytes = refl }
 
   one-record : record_in Point d count rows wanted extended ≡ record_in Column d count columns wanted extended
   unfolding record_in

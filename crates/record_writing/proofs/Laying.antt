@@ -1,4 +1,5 @@
 -- The parts of a record that stand before and behind the points, as they are laid; and the refusal of a description.
+use Rattle.std.specs.Prelude.{Err}
 use mathlib.Core.Path.{◌≡◌, refl, ◌∙◌}
 use mathlib.Core.Bool.{Bool, true, false, cond}
 use mathlib.Core.List.{List, [], ◌∷◌, ◌++◌}
@@ -15,13 +16,11 @@ use Rattle.channels.specs.declared.Description.{Description}
 use Rattle.channels.specs.declared.Format.TheVariants.{Full}
 use Rattle.refusals.specs.Stages.{or_else}
 use Rattle.refusals.specs.declared.Refusal.{Refusal}
-use Rattle.refusals.specs.declared.Judgement.TheVariants.{Refused}
 use Rattle.description_judging.specs.Judging as described
 use Rattle.orders.specs.declared.Order.{Order}
 use Rattle.records.specs.Record.{encode_extended}
 use Rattle.record_writing.specs.Write.{judgement_in, put_where, write_in}
 use Rattle.record_writing.specs.Parts.{opening_bytes}
-use Rattle.record_writing.specs.declared.Written.TheVariants as answers
 
 -- ---- What stands before the points
 
@@ -41,8 +40,8 @@ laid-five s at a b c d e =
     record { place = refl; bytes = rw (z, y, x) }
 
 -- a record whose description is refused is refused so, and nothing is put
-pub refused-written : (order : Order) (d : Description) (count : ℕ) (values : List ℤ) (wanted : Bool) (extended out : List ℕ) {refusal : Refusal} → described.judgement_of Full d ≡ Refused refusal
-    → writing (answers.Refused refusal) out ≡ write_in order d count values wanted extended out
+pub refused-written : (order : Order) (d : Description) (count : ℕ) (values : List ℤ) (wanted : Bool) (extended out : List ℕ) {refusal : Refusal} → described.judgement_of Full d ≡ Err refusal
+    → writing (Err refusal) out ≡ write_in order d count values wanted extended out
 unfolding write_in judgement_in or_else put_where
 refused-written order d count values wanted extended out e = rw e
 

@@ -1,5 +1,5 @@
 -- What passes every stage is a valid record, and its bytes are its parts one behind the other.
-use Rattle.std.specs.Prelude.{◌≡◌, refl, Bool, true, false, cond, ◌&&◌, ℕ, ◌+◌, ◌*◌, ◌<◌, T, ltb, ℤ, length}
+use Rattle.std.specs.Prelude.{◌≡◌, refl, Bool, true, false, cond, ◌&&◌, ℕ, ◌+◌, ◌*◌, ◌<◌, T, ltb, ℤ, length, Ok, Err}
 use Rattle.std.proofs.Math.Path.{sym}
 use mathlib.Core.List.{List, [], ◌∷◌, ◌++◌, flat_map, append_assoc}
 use Rattle.std.proofs.Math.Option.{Option, none, some}
@@ -12,7 +12,6 @@ use Rattle.refusals.specs.Stages.{require, or_else, stages, require-passed, or-e
 use Rattle.refusals.specs.declared.Quantity.TheVariants as quantity
 use Rattle.refusals.specs.declared.Refusal.{Refusal}
 use Rattle.refusals.specs.declared.Refusal.TheVariants.{OutOfRange, ExtendedSize}
-use Rattle.refusals.specs.declared.Judgement.TheVariants.{Passed, Refused}
 use Rattle.channels.specs.declared.Description.{Description}
 use Rattle.points.specs.Points.{width, encode_point}
 use Rattle.values.specs.Values as values
@@ -52,7 +51,7 @@ opened false extended = refl
 
 module _ (order : Order) (stored : List Bool) (count : ℕ) (numbers : List ℤ) (wanted : Bool) (extended : List ℕ) where
   -- how long the bytes are
-  pub bytes-length : (described : List ℕ) → values.judgement_of 2 stored order count numbers ≡ Passed
+  pub bytes-length : (described : List ℕ) → values.judgement_of 2 stored order count numbers ≡ Ok tt
       → length described + count * width 2 stored + length (encode_extended (cond wanted (some extended) none)) + 13 ≡ length (record_bytes order described stored count numbers wanted extended)
   unfolding record_bytes front_bytes opening_bytes
   bytes-length described e = sym (simp length-append (omega (arith, fits-length 2 stored order count numbers e, length_digits 3 count)))
@@ -62,7 +61,7 @@ module _ (order : Order) (stored : List Bool) (count : ℕ) (numbers : List ℤ)
   not-long false e h = absurd h
 
   -- what passes the stages behind the description's
-  pub numbers-pass : numbers_judged order stored count numbers wanted extended ≡ Passed → NumbersPass order stored count numbers wanted extended
+  pub numbers-pass : numbers_judged order stored count numbers wanted extended ≡ Ok tt → NumbersPass order stored count numbers wanted extended
   unfolding numbers_judged
   numbers-pass e =
       let y = stages-passed (count_stage count ∷ values.judgement_of 2 stored order count numbers ∷ extended_stage wanted extended ∷ []) e in
@@ -78,20 +77,20 @@ module _ (order : Order) (stored : List Bool) (count : ℕ) (numbers : List ℤ)
     within : ltb 16777215 count ≡ false
     within = le-ltb 16777215 count (omega arith)
 
-    pub at-values : {refusal : Refusal} → values.judgement_of 2 stored order count numbers ≡ Refused refusal → numbers_judged order stored count numbers wanted extended ≡ Refused refusal
+    pub at-values : {refusal : Refusal} → values.judgement_of 2 stored order count numbers ≡ Err refusal → numbers_judged order stored count numbers wanted extended ≡ Err refusal
     unfolding numbers_judged or_else stages require
     at-values h = rw (within, h)
 
-    module _ (fit : values.judgement_of 2 stored order count numbers ≡ Passed) where
-      pub at-extended : wanted ≡ true → 65535 < length extended → numbers_judged order stored count numbers wanted extended ≡ Refused ExtendedSize
+    module _ (fit : values.judgement_of 2 stored order count numbers ≡ Ok tt) where
+      pub at-extended : wanted ≡ true → 65535 < length extended → numbers_judged order stored count numbers wanted extended ≡ Err ExtendedSize
       unfolding numbers_judged or_else stages require
       at-extended e h = rw (within, fit, e, lt-ltb 65535 (length extended) h)
 
-      pub at_last : (T wanted → length extended < 65536) → numbers_judged order stored count numbers wanted extended ≡ Passed
+      pub at_last : (T wanted → length extended < 65536) → numbers_judged order stored count numbers wanted extended ≡ Ok tt
       unfolding numbers_judged or_else stages require
       at_last h = rw (within, fit, fits-length-of wanted extended h)
 
-  pub at_count : 16777215 < count → numbers_judged order stored count numbers wanted extended ≡ Refused (OutOfRange quantity.Count)
+  pub at_count : 16777215 < count → numbers_judged order stored count numbers wanted extended ≡ Err (OutOfRange quantity.Count)
   unfolding numbers_judged or_else stages require
   at_count h = rw (lt-ltb 16777215 count h)
 
@@ -111,7 +110,7 @@ module _ (order : Order) (d : Description) (count : ℕ) (numbers : List ℤ) (w
       (regroup identifier_bytes version_bytes (encode_description 2 d) (0x00 ∷ []) (cond wanted 0x80 0x00 ∷ []) (digits 3 count) row (encode_extended extra))
 
   -- what becomes of it, once its description was put aside
-  pub described-written : (out : List ℕ) {bytes : List ℕ} {flags : List Bool} → described.judgement_of Full d ≡ Passed → bytes ≡ encode_description 2 d → flags ≡ stored d
+  pub described-written : (out : List ℕ) {bytes : List ℕ} {flags : List Bool} → described.judgement_of Full d ≡ Ok tt → bytes ≡ encode_description 2 d → flags ≡ stored d
       → write_described order bytes flags count numbers wanted extended out ≡ write_in order d count numbers wanted extended out
   unfolding write_in write_described judgement_in or_else
   described-written out e b f = rw (b, f) (sym (rw (e, in_parts)))
@@ -127,12 +126,12 @@ module _ (order : Order) (d : Description) (count : ℕ) (numbers : List ℤ) (w
   }
 
   -- what passes every stage, and the other way round
-  pub passes : judgement_in order d count numbers wanted extended ≡ Passed → Passes order d count numbers wanted extended
+  pub passes : judgement_in order d count numbers wanted extended ≡ Ok tt → Passes order d count numbers wanted extended
   unfolding judgement_in
   passes e =
       let x = or-else-passed (described.judgement_of Full d) (numbers_judged order (stored d) count numbers wanted extended) e in
       record { described = x.0; numbered = numbers-pass order (stored d) count numbers wanted extended x.1 }
 
-  pub passing : Passes order d count numbers wanted extended → judgement_in order d count numbers wanted extended ≡ Passed
+  pub passing : Passes order d count numbers wanted extended → judgement_in order d count numbers wanted extended ≡ Ok tt
   unfolding judgement_in or_else
   passing p = rw p.described (at_last order (stored d) count numbers wanted extended p.numbered.counted p.numbered.fitting p.numbered.small)

@@ -1,5 +1,5 @@
 -- Which number refusal 12 of a record's writer names (request L2): what is claimed of it.
-use Rattle.std.specs.Prelude.{◌≡◌, Bool, List, ◌∷◌, ◌++◌, ℕ, ◌*◌, T, ℤ, length}
+use Rattle.std.specs.Prelude.{◌≡◌, Bool, List, ◌∷◌, ◌++◌, ℕ, ◌*◌, T, ℤ, length, Err}
 use Rattle.formats.specs.Lent.{writing}
 use Rattle.refusals.specs.Ranges.{Ranged, ◌fits_if◌, FirstOutside}
 use Rattle.refusals.specs.declared.Quantity.{Quantity}
@@ -14,7 +14,6 @@ use Rattle.values.specs.Values.{samples}
 use Rattle.orders.specs.declared.Order.{Order}
 use Rattle.channels.specs.Descriptors.{stored}
 use Rattle.record_writing.specs.Write.{count_fits, write_in}
-use Rattle.record_writing.specs.declared.Written.TheVariants.{Refused}
 
 -- the numbers of a record in stored order: those of the description, the count, and the sample values in point order, whichever the order that they are lent in
 unfoldable pub numbers : Order → Description → (count : ℕ) (values : List ℤ) → List Ranged
@@ -24,11 +23,11 @@ numbers order d count values = described.numbers 2 d ++ (Count fits_if count_fit
 abbrev pub NamesFirst : Type 0
 NamesFirst =
     (order : Order) (d : Description) (count : ℕ) (values : List ℤ) (wanted : Bool) (extended out bytes : List ℕ) (name : Quantity)
-    → writing (Refused (OutOfRange name)) bytes ≡ write_in order d count values wanted extended out → FirstOutside (numbers order d count values) name
+    → writing (Err (OutOfRange name)) bytes ≡ write_in order d count values wanted extended out → FirstOutside (numbers order d count values) name
 
 -- and where X and Y are included, the description is marked full and tidy and the amount of values is right, the first that is out of its range is named
 abbrev pub NamesEvery : Type 0
 NamesEvery =
     (order : Order) (d : Description) (count : ℕ) (values : List ℤ) (wanted : Bool) (extended out : List ℕ) (name : Quantity)
     → T (includes_xy d) → T (described.neat_in Full d) → length values ≡ count * size (stored d) → FirstOutside (numbers order d count values) name
-    → writing (Refused (OutOfRange name)) out ≡ write_in order d count values wanted extended out
+    → writing (Err (OutOfRange name)) out ≡ write_in order d count values wanted extended out

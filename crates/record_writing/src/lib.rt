@@ -6,21 +6,13 @@ ghost use Rattle.std.proofs.Math.Option.{some, none};
 ghost use Rattle.formats.specs.Laid.{Room, Laid};
 ghost use Rattle.formats.specs.Lent.{writing};
 ghost use Rattle.descriptions.specs.Description.{description};
-ghost use Rattle.refusals.specs.declared.Judgement.TheVariants.{Passed};
 ghost use Rattle.records.specs.Record.{encode_extended};
 ghost use Rattle.record_writing.specs.Write.{numbers_judged, NumbersPass, write_in, write_of, write_columns_of};
 ghost use Rattle.record_writing.specs.Parts.{opening_bytes, front_bytes, record_bytes, write_described};
 
 use channels::{Description, Format};
 use orders::Order;
-use refusals::{Judgement, Quantity, Refusal};
-
-// What became of a record that was to be written: its length, or the refusal of the first stage that it fails.
-#[derive(Clone, Copy)]
-pub enum Written {
-    Record { length: usize },
-    Refused(Refusal),
-}
+use refusals::{Quantity, Refusal};
 
 // The header's reserved byte, the opening byte and the count are put.
 fn put_opening(out: &mut [u8], at: usize, wanted: bool, count: usize) -> usize
@@ -80,24 +72,21 @@ fn judge_values(
     values: &[i32],
     wanted: bool,
     extended: &[u8],
-) -> Judgement
+) -> Result<(), Refusal>
     ensures { result ≡ numbers_judged order stored count values.now wanted extended.now }
 {
     if 16777215 < count {
-        return Judgement::Refused(Refusal::OutOfRange {
+        return Err(Refusal::OutOfRange {
             quantity: Quantity::Count,
         });
     }
-    let judged = values::judge(values, count, Format::Full, stored, order);
-    if let Judgement::Refused(_) = judged {
-        return judged;
-    }
+    values::judge(values, count, Format::Full, stored, order)?;
     if wanted {
         if 65535 < extended.len() {
-            return Judgement::Refused(Refusal::ExtendedSize);
+            return Err(Refusal::ExtendedSize);
         }
     }
-    Judgement::Passed
+    Ok(())
 }
 
 // A record that passed every stage is put at the start of the output.
@@ -130,23 +119,20 @@ fn write_described(
     wanted: bool,
     extended: &[u8],
     out: &mut [u8],
-) -> Written
+) -> Result<usize, Refusal>
     requires { length described.now ≤ 178 }
     ensures { writing result out.new ≡ write_described order described.now stored count values.now wanted extended.now out.old }
 {
-    let judged = judge_values(stored, order, count, values, wanted, extended);
-    if let Judgement::Refused(refusal) = judged {
-        return Written::Refused(refusal);
-    }
+    judge_values(stored, order, count, values, wanted, extended)?;
     let width = points::width(Format::Full, stored);
     let length = record_size(described.len(), width, count, wanted, extended);
     if out.len() < length {
-        return Written::Refused(Refusal::Room);
+        return Err(Refusal::Room);
     }
     put_record(
         out, described, stored, order, count, values, wanted, extended,
     );
-    Written::Record { length: length }
+    Ok(length)
 }
 
 // A record is written from a description, a count, values in stored order, point by point or column by column, and, where they are wanted, extended data.
@@ -160,20 +146,16 @@ fn write_in(
     wanted: bool,
     extended: &[u8],
     out: &mut [u8],
-) -> Written
+) -> Result<usize, Refusal>
     ensures { writing result out.new ≡ write_in order description count values.now wanted extended.now out.old }
 {
     let mut room: [u8; 178] = [0; 178]; // two inclusion bytes, and eleven for each of sixteen channels
-    match description_writing::put(&mut room, 0, description, Format::Full) {
-        description_writing::Written::Done(end) => {
-            let described = &room[0..end];
-            let stored = channels::stored_channels(description);
-            write_described(
-                described, stored, order, count, values, wanted, extended, out,
-            )
-        }
-        description_writing::Written::Refused(refusal) => Written::Refused(refusal),
-    }
+    let end = description_writing::put(&mut room, 0, description, Format::Full)?;
+    let described = &room[0..end];
+    let stored = channels::stored_channels(description);
+    write_described(
+        described, stored, order, count, values, wanted, extended, out,
+    )
 }
 
 // A record is written from values point by point, as `write_in` has it.
@@ -184,7 +166,7 @@ pub fn write(
     wanted: bool,
     extended: &[u8],
     out: &mut [u8],
-) -> Written
+) -> Result<usize, Refusal>
     ensures { writing result out.new ≡ write_of description count values.now wanted extended.now out.old }
 {
     write_in(
@@ -206,7 +188,7 @@ pub fn write_columns(
     wanted: bool,
     extended: &[u8],
     out: &mut [u8],
-) -> Written
+) -> Result<usize, Refusal>
     ensures { writing result out.new ≡ write_columns_of description count values.now wanted extended.now out.old }
 {
     write_in(

@@ -1,11 +1,10 @@
 -- Numbers that are judged one behind the other, in the order in which they are stored: refusal 12 names the first that is out of its range (request L2).
-use Rattle.std.specs.Prelude.{◌≡◌, Bool, true, false, List, [], ◌∷◌, ◌++◌}
+use Rattle.std.specs.Prelude.{◌≡◌, Bool, true, false, List, [], ◌∷◌, ◌++◌, Result, Ok, ⊤}
 use Rattle.formats.specs.Writes.{All}
 use Rattle.refusals.specs.Stages.{require, or_else}
 use Rattle.refusals.specs.declared.Quantity.{Quantity}
 use Rattle.refusals.specs.declared.Refusal.TheVariants.{OutOfRange}
-use Rattle.refusals.specs.declared.Judgement.{Judgement}
-use Rattle.refusals.specs.declared.Judgement.TheVariants.{Passed}
+use Rattle.refusals.specs.declared.Refusal.{Refusal}
 
 -- a number by its name, and whether it is in its range
 pub record Ranged : Type 0 where
@@ -17,8 +16,8 @@ abbrev pub ◌fits_if◌ : Quantity → Bool → Ranged
 name fits_if test = record { name = name; fits = test }
 
 -- the first that does not fit is refused by its name; where all fit, none is
-unfoldable pub first_misfit : List Ranged → Judgement
-first_misfit [] = Passed
+unfoldable pub first_misfit : List Ranged → Result ⊤ Refusal
+first_misfit [] = Ok tt
 first_misfit (number ∷ l) = or_else (require number.fits (OutOfRange number.name)) (first_misfit l)
 
 -- ---- What is claimed of it

@@ -1,9 +1,7 @@
 -- Document 01's table of refusals, 1 to 18, and the requests' rows, 20 of L3 and 21 of L4: the number of each, the place that it names, and the refusal that a reader's failure is.
-use Rattle.std.specs.Prelude.{List, [], ◌∷◌, ℕ, ◌-◌, get_or}
+use Rattle.std.specs.Prelude.{List, [], ◌∷◌, ℕ, ◌-◌, get_or, Option, Some, None}
 use Rattle.formats.specs.declared.Failure.{Failure}
 use Rattle.formats.specs.declared.Failure.TheVariants as failure
-use Rattle.refusals.specs.declared.Where.{Where}
-use Rattle.refusals.specs.declared.Where.TheVariants.{At, Nowhere}
 use Rattle.refusals.specs.declared.Refusal.{Refusal}
 use Rattle.refusals.specs.declared.Refusal.TheVariants.{Short, Identifier, Version, XOrY, ReservedBit, ReservedByte, OpeningBits, Switch, LeftOver, NoPoint, Untidy, OutOfRange, Amount, ExtendedSize, Room, Tag, Length, Maximum, Uncalibrated, NotCompact}
 
@@ -30,27 +28,27 @@ number_of Uncalibrated = 20
 number_of (NotCompact quantity) = 21
 
 -- "where a place is named the offset from the slice's start"
-abbrev pub place_of : Refusal → Where
-place_of Short = Nowhere
-place_of (Identifier place) = At place
-place_of (Version place) = At place
+abbrev pub place_of : Refusal → Option ℕ
+place_of Short = None
+place_of (Identifier place) = Some place
+place_of (Version place) = Some place
 place_of (XOrY place) = place
-place_of (ReservedBit place) = At place
-place_of (ReservedByte place) = At place
-place_of (OpeningBits place) = At place
-place_of (Switch place) = At place
-place_of (LeftOver place) = At place
-place_of NoPoint = Nowhere
-place_of Untidy = Nowhere
-place_of (OutOfRange quantity) = Nowhere
-place_of Amount = Nowhere
-place_of ExtendedSize = Nowhere
-place_of Room = Nowhere
-place_of Tag = Nowhere
-place_of Length = Nowhere
-place_of Maximum = Nowhere
-place_of Uncalibrated = Nowhere
-place_of (NotCompact quantity) = Nowhere
+place_of (ReservedBit place) = Some place
+place_of (ReservedByte place) = Some place
+place_of (OpeningBits place) = Some place
+place_of (Switch place) = Some place
+place_of (LeftOver place) = Some place
+place_of NoPoint = None
+place_of Untidy = None
+place_of (OutOfRange quantity) = None
+place_of Amount = None
+place_of ExtendedSize = None
+place_of Room = None
+place_of Tag = None
+place_of Length = None
+place_of Maximum = None
+place_of Uncalibrated = None
+place_of (NotCompact quantity) = None
 
 -- how it is told of what has to fit the compact format: 21 in place of 12, and every other as it is (request L4)
 unfoldable pub in_compact : Refusal → Refusal
@@ -79,7 +77,7 @@ in_compact (NotCompact quantity) = NotCompact quantity
 
 -- the refusals that name a byte, from 2 on
 abbrev pub at_byte : (place : ℕ) → List Refusal
-at_byte place = Identifier place ∷ Version place ∷ XOrY (At place) ∷ ReservedBit place ∷ ReservedByte place ∷ OpeningBits place ∷ Switch place ∷ LeftOver place ∷ []
+at_byte place = Identifier place ∷ Version place ∷ XOrY (Some place) ∷ ReservedBit place ∷ ReservedByte place ∷ OpeningBits place ∷ Switch place ∷ LeftOver place ∷ []
 
 unfoldable pub named : (number place : ℕ) → Refusal
 named number place = get_or (at_byte place) (number - 2) (LeftOver place)

@@ -6,13 +6,6 @@ ghost use Rattle.refusals.specs.Table.{number_of, place_of, in_compact, named, r
 
 use formats::Failure;
 
-// The place that a refusal names, the offset of its byte; or that it names none.
-#[derive(Clone, Copy)]
-pub enum Where {
-    At(usize),
-    Nowhere,
-}
-
 // The numbers that a descriptor may give of its channel, in the order in which they are stored (7.3.4.2).
 #[derive(Clone, Copy)]
 pub enum AttributeName {
@@ -42,7 +35,7 @@ pub enum Refusal {
     Short,
     Identifier { place: usize },
     Version { place: usize },
-    XOrY { place: Where }, // not both included: it names a place when reading
+    XOrY { place: Option<usize> }, // not both included: it names a place when reading
     ReservedBit { place: usize },
     ReservedByte { place: usize },
     OpeningBits { place: usize },
@@ -59,13 +52,6 @@ pub enum Refusal {
     Maximum,
     Uncalibrated, // no scaling value, so that the channel's calibration is unknown (7.3.4.3)
     NotCompact { quantity: Quantity }, // it does not fit the compact format (8.4)
-}
-
-// What one stage of judging says.
-#[derive(Clone, Copy)]
-pub enum Judgement {
-    Passed,
-    Refused(Refusal),
 }
 
 // The paper's number of a refusal.
@@ -97,30 +83,30 @@ pub fn number(refusal: Refusal) -> u8
 }
 
 // The place that it names.
-pub fn place(refusal: Refusal) -> Where
+pub fn place(refusal: Refusal) -> Option<usize>
     ensures { result ≡ place_of refusal }
 {
     match refusal {
-        Refusal::Short => Where::Nowhere,
-        Refusal::Identifier { place } => Where::At(place),
-        Refusal::Version { place } => Where::At(place),
+        Refusal::Short => None,
+        Refusal::Identifier { place } => Some(place),
+        Refusal::Version { place } => Some(place),
         Refusal::XOrY { place } => place,
-        Refusal::ReservedBit { place } => Where::At(place),
-        Refusal::ReservedByte { place } => Where::At(place),
-        Refusal::OpeningBits { place } => Where::At(place),
-        Refusal::Switch { place } => Where::At(place),
-        Refusal::LeftOver { place } => Where::At(place),
-        Refusal::NoPoint => Where::Nowhere,
-        Refusal::Untidy => Where::Nowhere,
-        Refusal::OutOfRange { quantity: _ } => Where::Nowhere,
-        Refusal::Amount => Where::Nowhere,
-        Refusal::ExtendedSize => Where::Nowhere,
-        Refusal::Room => Where::Nowhere,
-        Refusal::Tag => Where::Nowhere,
-        Refusal::Length => Where::Nowhere,
-        Refusal::Maximum => Where::Nowhere,
-        Refusal::Uncalibrated => Where::Nowhere,
-        Refusal::NotCompact { quantity: _ } => Where::Nowhere,
+        Refusal::ReservedBit { place } => Some(place),
+        Refusal::ReservedByte { place } => Some(place),
+        Refusal::OpeningBits { place } => Some(place),
+        Refusal::Switch { place } => Some(place),
+        Refusal::LeftOver { place } => Some(place),
+        Refusal::NoPoint => None,
+        Refusal::Untidy => None,
+        Refusal::OutOfRange { quantity: _ } => None,
+        Refusal::Amount => None,
+        Refusal::ExtendedSize => None,
+        Refusal::Room => None,
+        Refusal::Tag => None,
+        Refusal::Length => None,
+        Refusal::Maximum => None,
+        Refusal::Uncalibrated => None,
+        Refusal::NotCompact { quantity: _ } => None,
     }
 }
 
@@ -141,9 +127,7 @@ fn named(number: u8, place: usize) -> Refusal
     match number {
         0..=2 => Refusal::Identifier { place: place },
         3 => Refusal::Version { place: place },
-        4 => Refusal::XOrY {
-            place: Where::At(place),
-        },
+        4 => Refusal::XOrY { place: Some(place) },
         5 => Refusal::ReservedBit { place: place },
         6 => Refusal::ReservedByte { place: place },
         7 => Refusal::OpeningBits { place: place },
@@ -152,7 +136,15 @@ fn named(number: u8, place: usize) -> Refusal
     }
 }
 
-// The refusal that a reader's failure is.
+// The refusal that a reader's failure is: so `?` passes a failure on as a refusal.
+impl From<Failure> for Refusal {
+    ghost from_gives = { λ failure refusal. refusal ≡ refusal_of failure };
+
+    fn from(failure: Failure) -> Refusal {
+        of(failure)
+    }
+}
+
 pub fn of(failure: Failure) -> Refusal
     ensures { result ≡ refusal_of failure }
 {

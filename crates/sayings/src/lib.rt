@@ -1,124 +1,118 @@
 // Descriptions as words: a word for the mark and one for each channel of which something is said, read from a line and put into a text.
 #![tactic(auto)]
 
-ghost use Rattle.std.specs.Prelude.{◌≡◌, false, ◌⊎◌};
+ghost use Rattle.std.specs.Prelude.{◌≡◌, false, ◌<◌, IfSome, IfErr};
 ghost use Rattle.descriptions.specs.Read.{nothing};
 ghost use Rattle.words.specs.Places.{Blank};
+ghost use Rattle.words.specs.declared.Reason.TheVariants.{NotAChannel};
 ghost use Rattle.sayings.specs.Silent.{Silent};
 
 use channels::{Attribute, Description, Descriptor, Format};
+use texts::Text;
+use words::{Parsed, Reason};
 
-// Why words say no description, beside the reasons of `words`.
-pub const NOT_A_CHANNEL: usize = 4;
-
-// The channel of a name, or 16 where no channel has it.
-fn channel_of(name: &[u8]) -> usize {
-    words::which(b"X Y Z VX VY AX AY T DT F S TX TY Az El R", b' ', name)
+// The channel of a name.
+fn channel_of(name: &[u8]) -> Option<usize>
+    ensures { IfSome result (λ channel. channel < 16) }
+{
+    let channel = words::which(b"X Y Z VX VY AX AY T DT F S TX TY Az El R", b' ', name);
+    channel.filter(|number| *number < 16)
 }
 
 // A channel's name, behind a space.
-pub fn put_name(text: &mut [u8; 65536], start: u16, channel: usize) -> u16 {
-    let used = texts::put(text, start, b' ');
-    texts::put_bytes(
-        text,
-        used,
-        words::name(b"X Y Z VX VY AX AY T DT F S TX TY Az El R", b' ', channel),
-    )
+pub fn put_name(text: &mut Text, channel: usize) {
+    text.put(b' ');
+    text.put_bytes(words::name(b"X Y Z VX VY AX AY T DT F S TX TY Az El R", b' ', channel));
 }
 
 // What is said of a channel: five numbers, and two things that hold or not.
-pub const SCALING: usize = 0;
+#[derive(Clone, Copy)]
+pub enum Thing {
+    Scaling,
+    Minimum,
+    Maximum,
+    Mean,
+    Deviation,
+    Constant,
+    Removed,
+}
 
-pub const MINIMUM: usize = 1;
+fn name_of(thing: Thing) -> &'static [u8] {
+    match thing {
+        Thing::Scaling => b"scaling",
+        Thing::Minimum => b"minimum",
+        Thing::Maximum => b"maximum",
+        Thing::Mean => b"mean",
+        Thing::Deviation => b"deviation",
+        Thing::Constant => b"constant",
+        Thing::Removed => b"removed",
+    }
+}
 
-pub const MAXIMUM: usize = 2;
-
-pub const MEAN: usize = 3;
-
-pub const DEVIATION: usize = 4;
-
-const CONSTANT: usize = 5;
-
-const REMOVED: usize = 6;
-
-// The thing of a name, or 7 where none has it.
-fn thing_of(name: &[u8]) -> usize {
-    words::which(
-        b"scaling minimum maximum mean deviation constant removed",
-        b' ',
-        name,
-    )
+// The thing of a name.
+fn thing_of(name: &[u8]) -> Option<Thing> {
+    let things = [
+        Thing::Scaling,
+        Thing::Minimum,
+        Thing::Maximum,
+        Thing::Mean,
+        Thing::Deviation,
+        Thing::Constant,
+        Thing::Removed,
+    ];
+    things.into_iter().find(|thing| name_of(*thing) == name)
 }
 
 // Its name, behind a mark.
-pub fn put_thing(text: &mut [u8; 65536], start: u16, mark: u8, thing: usize) -> u16 {
-    let used = texts::put(text, start, mark);
-    texts::put_bytes(
-        text,
-        used,
-        words::name(
-            b"scaling minimum maximum mean deviation constant removed",
-            b' ',
-            thing,
-        ),
-    )
+pub fn put_thing(text: &mut Text, mark: u8, thing: Thing) {
+    text.put(mark);
+    text.put_bytes(name_of(thing));
 }
 
 // One thing that is said of a channel, as `constant`, `mean=5` or, a number without its flag, `!mean=5`.
 #[derive(Clone, Copy)]
-struct Thing {
-    good: bool,
-    thing: usize,
+struct Saying {
+    thing: Thing,
     attribute: Attribute,
 }
 
-// Only a number has something behind its name.
-fn thing_in(text: &[u8]) -> Thing {
+// The number that stands behind a thing's name and `=`. Only a number has something behind its name.
+fn number_behind(thing: Thing, behind: &[u8]) -> Option<i32> {
+    match thing {
+        Thing::Constant | Thing::Removed if behind.is_empty() => Some(0),
+        Thing::Constant | Thing::Removed => None,
+        _ => numerals::small_in(words::part(behind, 1, behind.len())),
+    }
+}
+
+fn saying_in(text: &[u8]) -> Option<Saying> {
     let sentence = words::without_not(text);
     let equals = words::seek(sentence, 0, b'=');
-    let thing = thing_of(words::part(sentence, 0, equals));
-    let behind = words::part(sentence, equals, sentence.len());
-    let number = numerals::small_in(words::part(behind, 1, behind.len()));
-    Thing {
-        good: if thing < CONSTANT {
-            number.good
-        } else {
-            thing <= REMOVED && behind.len() == 0
-        },
+    let thing = thing_of(words::part(sentence, 0, equals))?;
+    let number = number_behind(thing, words::part(sentence, equals, sentence.len()))?;
+    Some(Saying {
         thing: thing,
         attribute: Attribute {
             given: !words::says_not(text),
-            number: number.value,
+            number: number,
         },
-    }
+    })
 }
 
 // A descriptor with one thing more.
-fn with(descriptor: Descriptor, thing: usize, attribute: Attribute) -> Descriptor {
+fn with(descriptor: Descriptor, more: Saying) -> Descriptor {
+    let attribute = more.attribute;
     let mut d = descriptor;
-    match thing {
-        SCALING => d.scaling = attribute,
-        MINIMUM => d.minimum = attribute,
-        MAXIMUM => d.maximum = attribute,
-        MEAN => d.mean = attribute,
-        DEVIATION => d.deviation = attribute,
-        CONSTANT => d.constant = attribute.given,
-        _ => d.detrended = attribute.given,
+    match more.thing {
+        Thing::Scaling => d.scaling = attribute,
+        Thing::Minimum => d.minimum = attribute,
+        Thing::Maximum => d.maximum = attribute,
+        Thing::Mean => d.mean = attribute,
+        Thing::Deviation => d.deviation = attribute,
+        Thing::Constant => d.constant = attribute.given,
+        Thing::Removed => d.detrended = attribute.given,
     }
     d
-}
-
-// Whether the things behind a channel's name, each after a dot, can be read.
-fn readable(word: &[u8]) -> bool {
-    let mut good = true;
-    let mut dot = words::seek(word, 0, b'.');
-    while dot < word.len() {
-        let end = words::seek(word, dot + 1, b'.');
-        let more = thing_in(words::part(word, dot + 1, end));
-        good = good && more.good;
-        dot = end;
-    }
-    good
 }
 
 // A channel of which only is said whether it is included.
@@ -129,147 +123,116 @@ fn named(included: bool) -> Descriptor {
     d
 }
 
-// What a word that can be read says of its channel.
-fn descriptor_in(word: &[u8]) -> Descriptor {
+// What a word says of its channel, each thing behind a dot.
+fn descriptor_in(word: &[u8]) -> Option<Descriptor> {
     let mut d = named(!words::says_not(word));
-    let mut dot = words::seek(word, 0, b'.');
-    while dot < word.len() {
-        let end = words::seek(word, dot + 1, b'.');
-        let more = thing_in(words::part(word, dot + 1, end));
-        let attribute = more.attribute;
-        d = with(d, more.thing, attribute);
-        dot = end;
+    for text in word.split(|byte| *byte == b'.').skip(1) {
+        d = with(d, saying_in(text)?);
     }
-    d
+    Some(d)
 }
 
-// The channel of a word, or 16 where it names none.
-fn channel_in(word: &[u8]) -> usize {
+// The channel that a word names.
+fn channel_in(word: &[u8]) -> Option<usize>
+    ensures { IfSome result (λ channel. channel < 16) }
+{
     let name = words::without_not(word);
     channel_of(words::part(name, 0, words::seek(name, 0, b'.')))
 }
 
-// A description's mark, and the place behind its word.
-#[derive(Clone, Copy)]
-pub struct Marked {
-    pub mark: Format,
-    pub behind: usize,
-}
-
-// The mark that a line says at a place, or, where it says none, the one that is meant there.
-pub fn mark_at(line: &[u8], at: usize, meant: Format) -> Marked {
-    let span = words::next(line, b' ', at);
-    let word = words::part(line, span.from, span.to);
-    match words::which(b"full compact", b' ', word) {
-        0 => Marked {
-            mark: Format::Full,
-            behind: span.to,
+// The mark that a line says at a place, or, where it says none, the one that is meant there; and the place behind it.
+pub fn mark_at(line: &[u8], at: usize, meant: Format) -> Parsed<Format> {
+    let word = words::word_at(line, at);
+    match words::which(b"full compact", b' ', word.value) {
+        Some(0) => Parsed {
+            value: Format::Full,
+            behind: word.behind,
         },
-        1 => Marked {
-            mark: Format::Compact,
-            behind: span.to,
+        Some(_) => Parsed {
+            value: Format::Compact,
+            behind: word.behind,
         },
-        _ => Marked {
-            mark: meant,
+        None => Parsed {
+            value: meant,
             behind: at,
         },
     }
 }
 
-// Why the words of a line, from a place on, say no channels.
-pub fn reason_at(line: &[u8], at: usize) -> usize
-    ensures { (result ≡ 0) ⊎ (result ≡ 4) }
-{
-    let mut place = words::next(line, b' ', at);
-    while place.from < place.to {
-        let word = words::part(line, place.from, place.to);
-        if 15 < channel_in(word) || !readable(word) {
-            return NOT_A_CHANNEL;
-        }
-        place = words::next(line, b' ', place.to);
-    }
-    words::NO_REASON
-}
-
-// The description with a mark, and with the channels that the words of a line, from a place on, say, where there is no reason why not.
-pub fn description_at(line: &[u8], at: usize, mark: Format) -> Description
-    ensures { Blank line.now at → result ≡ nothing mark }
+// The description with a mark, and with the channels that the words of a line, from a place on, say; or that one of them says no channel.
+pub fn described_at(line: &[u8], at: usize, mark: Format) -> Result<Description, Reason>
+    ensures nothing { Blank line.now at → result ≡ Ok (nothing mark) }
+    ensures reason { IfErr result (λ reason. reason ≡ NotAChannel) }
 {
     let mut description = descriptions::nothing(mark);
+    // tried with `split` and `filter`: then nothing says that a blank line has no word, which `words::next` promises
     let mut span = words::next(line, b' ', at);
     while span.from < span.to {
         let word = words::part(line, span.from, span.to);
-        let channel = channel_in(word);
-        if channel < 16 {
-            let d = descriptor_in(word);
-            description.channels[channel] = d;
-        }
+        let channel = channel_in(word).ok_or(Reason::NotAChannel)?;
+        let d = descriptor_in(word).ok_or(Reason::NotAChannel)?;
+        description.channels[channel] = d;
         span = words::next(line, b' ', span.to);
     }
-    description
+    Ok(description)
 }
 
-fn put_attribute(text: &mut [u8; 65536], start: u16, thing: usize, attribute: Attribute) -> u16 {
+fn put_attribute(text: &mut Text, thing: Thing, attribute: Attribute) {
     if !attribute.given {
-        return start;
+        return;
     }
-    let used = put_thing(text, start, b'.', thing);
-    let used = texts::put(text, used, b'=');
-    texts::put_value(text, used, attribute.number)
+    put_thing(text, b'.', thing);
+    text.put(b'=');
+    text.put_value(attribute.number);
 }
 
-fn put_holding(text: &mut [u8; 65536], used: u16, thing: usize, holds: bool) -> u16 {
+fn put_holding(text: &mut Text, thing: Thing, holds: bool) {
     if holds {
-        return put_thing(text, used, b'.', thing);
+        return put_thing(text, b'.', thing);
     }
-    used
 }
 
 // The word of a channel, where it is included: its name, and what is said of it.
-fn put_channel(text: &mut [u8; 65536], start: u16, channel: usize, d: Descriptor) -> u16
-    ensures { d.included ≡ false → result ≡ start }
+fn put_channel(text: &mut Text, channel: usize, d: Descriptor)
+    ensures { d.included ≡ false → text.new ≡ text.old }
 {
     if !d.included {
-        return start;
+        return;
     }
-    let used = put_name(text, start, channel);
-    put_descriptor(text, used, d)
+    put_name(text, channel);
+    put_descriptor(text, d);
 }
 
-fn put_descriptor(text: &mut [u8; 65536], start: u16, d: Descriptor) -> u16 {
-    let used = put_attribute(text, start, SCALING, d.scaling);
-    let used = put_attribute(text, used, MINIMUM, d.minimum);
-    let used = put_attribute(text, used, MAXIMUM, d.maximum);
-    let used = put_attribute(text, used, MEAN, d.mean);
-    let used = put_attribute(text, used, DEVIATION, d.deviation);
-    let used = put_holding(text, used, CONSTANT, d.constant);
-    put_holding(text, used, REMOVED, d.detrended)
+fn put_descriptor(text: &mut Text, d: Descriptor) {
+    put_attribute(text, Thing::Scaling, d.scaling);
+    put_attribute(text, Thing::Minimum, d.minimum);
+    put_attribute(text, Thing::Maximum, d.maximum);
+    put_attribute(text, Thing::Mean, d.mean);
+    put_attribute(text, Thing::Deviation, d.deviation);
+    put_holding(text, Thing::Constant, d.constant);
+    put_holding(text, Thing::Removed, d.detrended);
 }
 
 // A word for each channel that is included.
-fn put_channels(text: &mut [u8; 65536], start: u16, description: Description) -> u16
-    ensures { Silent description → result ≡ start }
+fn put_channels(text: &mut Text, description: Description)
+    ensures { Silent description → text.new ≡ text.old }
 {
-    let mut used = start;
-    let mut channel: usize = 0;
-    while channel < 16 {
+    for channel in 0..16 {
         let d = description.channels[channel];
-        used = put_channel(text, used, channel, d);
-        channel += 1;
+        put_channel(text, channel, d);
     }
-    used
 }
 
 // Its mark, and a word for each channel that is included.
-pub fn put_description(text: &mut [u8; 65536], start: u16, description: Description) -> u16 {
+pub fn put_description(text: &mut Text, description: Description) {
     let mark = description.mark;
-    let used = put_mark(text, start, mark);
-    put_channels(text, used, description)
+    put_mark(text, mark);
+    put_channels(text, description);
 }
 
-fn put_mark(text: &mut [u8; 65536], used: u16, mark: Format) -> u16 {
+fn put_mark(text: &mut Text, mark: Format) {
     match mark {
-        Format::Full => texts::put_bytes(text, used, b" full"),
-        Format::Compact => texts::put_bytes(text, used, b" compact"),
+        Format::Full => text.put_bytes(b" full"),
+        Format::Compact => text.put_bytes(b" compact"),
     }
 }

@@ -1,26 +1,30 @@
 // The question of some bytes as a compact parameter template: it is asked of the library, and answered.
 #![tactic(auto)]
 
-use refusals::Judgement;
+use texts::Text;
 
 // The template that the bytes are, its maximum first, since a description has any number of words.
-pub fn read(text: &mut [u8; 65536], start: u16, bytes: &[u8]) -> u16 {
+pub fn read(text: &mut Text, bytes: &[u8]) {
     let judged = templates::read(bytes);
     let verdict = judged.verdict;
     match verdict {
-        Judgement::Passed => put_template(text, start, judged.template),
-        Judgement::Refused(refusal) => answers::put(text, start, answers::of_refusal(refusal)),
+        Ok(()) => put_template(text, judged.template),
+        Err(refusal) => answers::put(text, answers::of_refusal(refusal)),
     }
 }
 
 // Where a template has no description, `!` says so, and no word of one is put.
-fn put_template(text: &mut [u8; 65536], start: u16, template: templates::Template) -> u16 {
+fn put_template(text: &mut Text, template: templates::Template) {
     let described = template.described;
     let description = template.description;
-    let maximum = answers::of_maximum(template.limited, template.maximum);
-    let used = answers::put(text, start, maximum);
+    let maximum = if template.limited {
+        Some(template.maximum)
+    } else {
+        None
+    };
+    answers::put(text, answers::of_maximum(maximum));
     if described {
-        return sayings::put_description(text, used, description);
+        return sayings::put_description(text, description);
     }
-    answers::put_last(text, used, answers::NONE)
+    answers::put_last(text, answers::Word::Nothing);
 }

@@ -1,4 +1,5 @@
 -- What code lays down for a template: a number in its fewest bytes, a field as its head and its content, and the whole from the bytes of a description.
+use Rattle.std.specs.Prelude.{Result, Ok, Err, ⊤}
 use mathlib.Core.Path.{◌≡◌, refl}
 use mathlib.Core.Bool.{Bool, true, false}
 use mathlib.Core.List.{List, [], ◌∷◌, ◌++◌}
@@ -15,10 +16,7 @@ use Rattle.channels.specs.declared.Format.TheVariants.{Compact}
 use Rattle.descriptions.specs.Description.{encode_description}
 use Rattle.refusals.specs.Stages.{or_else, stages}
 use Rattle.refusals.specs.declared.Refusal.{Refusal}
-use Rattle.refusals.specs.declared.Judgement.{Judgement}
-use Rattle.refusals.specs.declared.Judgement.TheVariants as judgement
 use Rattle.description_judging.specs.Judging as judging
-use Rattle.template_writing.specs.declared.Written.TheVariants as answers
 use Rattle.templates.specs.Template.{field, fewest, shortest, encode_described, encode_limited, encode}
 use Rattle.templates.specs.EncodedLaws.{one_byte, two_bytes, three-bytes}
 use Rattle.template_writing.specs.Writing.{description_stage, maximum_stage, put_where, judgement_of, write_of, described_bytes, template_bytes, write_fields}
@@ -93,20 +91,20 @@ put_first s b h = rw zero-add at (puts-is s 0 b (omega arith))
 -- ---- How the description was put aside, and what is written then
 
 module _ (described : Bool) (d : Description) (limited : Bool) (n : ℕ) (out : List ℕ) where
-  last-stage : (j : Judgement) → stages (judgement.Passed ∷ j ∷ []) ≡ j
+  last-stage : (j : Result ⊤ Refusal) → stages ((Ok tt) ∷ j ∷ []) ≡ j
   unfolding stages or_else
-  last-stage judgement.Passed = refl
-  last-stage (judgement.Refused refusal) = refl
+  last-stage (Ok _) = refl
+  last-stage (Err refusal) = refl
 
   pub unwanted-written : described ≡ false → (b : List ℕ) → write_fields false b limited n out ≡ write_of described d limited n out
   unfolding write_fields template_bytes described_bytes write_of judgement_of description_stage encode encode_described
   unwanted-written e b = rw (e, last-stage (maximum_stage limited n))
 
   module _ (e : described ≡ true) where
-    pub passed-written : (b : List ℕ) → b ≡ encode_description 1 d → judging.judgement_of Compact d ≡ judgement.Passed → write_fields true b limited n out ≡ write_of described d limited n out
+    pub passed-written : (b : List ℕ) → b ≡ encode_description 1 d → judging.judgement_of Compact d ≡ Ok tt → write_fields true b limited n out ≡ write_of described d limited n out
     unfolding write_fields template_bytes described_bytes write_of judgement_of description_stage encode encode_described
     passed-written b q f = rw (e, q, f, last-stage (maximum_stage limited n))
 
-    pub refused-written : {refusal : Refusal} → judging.judgement_of Compact d ≡ judgement.Refused refusal → writing (answers.Refused refusal) out ≡ write_of described d limited n out
+    pub refused-written : {refusal : Refusal} → judging.judgement_of Compact d ≡ Err refusal → writing (Err refusal) out ≡ write_of described d limited n out
     unfolding write_of judgement_of description_stage stages or_else put_where
     refused-written f = rw (e, f)

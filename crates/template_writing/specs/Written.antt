@@ -1,5 +1,5 @@
 -- What is written where something isn't wanted; what was read is written back, a refusal leaves the bytes as they were, and what isn't wanted isn't looked at. `ReadBack`, among the proofs: what was written is read back.
-use Rattle.std.specs.Prelude.{◌≡◌, Bool, cond, List, ◌++◌, ℕ, ◌≤◌, length, drop}
+use Rattle.std.specs.Prelude.{◌≡◌, Bool, cond, List, ◌++◌, ℕ, ◌≤◌, length, drop, Result, Ok, Err, ⊤}
 use Rattle.std.proofs.Math.Path.{refl}
 use Rattle.std.proofs.Common.{arith, le-leb, le-ltb}
 use Rattle.std.proofs.Math.Bool.{true, false}
@@ -11,11 +11,8 @@ use Rattle.channels.specs.declared.Format.TheVariants.{Compact}
 use Rattle.descriptions.specs.Read.{nothing}
 use Rattle.refusals.specs.Stages.{require, or_else, stages}
 use Rattle.refusals.specs.declared.Refusal.{Refusal}
-use Rattle.refusals.specs.declared.Judgement.{Judgement}
-use Rattle.refusals.specs.declared.Judgement.TheVariants as judgement
 use Rattle.description_judging.proofs.JudgingLaws.{valid-passed}
 use Rattle.templates.specs.declared.Template.{Template}
-use Rattle.template_writing.specs.declared.Written.TheVariants.{Done, Refused}
 use Rattle.templates.specs.Template.{encode_described, encode_limited, encode, Describes, Limits}
 use Rattle.templates.specs.Reading.{saying, accepted, template_of}
 use Rattle.templates.specs.EncodedLaws.{written_read}
@@ -27,7 +24,7 @@ wanted described d limited maximum = saying described (cond described d (nothing
 
 -- ---- What passes
 
-describes-passed : (described : Bool) (d : Description) → Describes described d → description_stage described d ≡ judgement.Passed
+describes-passed : (described : Bool) (d : Description) → Describes described d → description_stage described d ≡ Ok tt
 unfolding description_stage
 describes-passed true d h = (valid-passed Compact d h).0
 describes-passed false d h = refl
@@ -44,18 +41,18 @@ module _ (described : Bool) (d : Description) (limited : Bool) (n : ℕ) (out : 
   b = encode (saying described d limited n)
 
   -- a refusal leaves the bytes as they were
-  pub unchanged : {refusal : Refusal} → (write_of described d limited n out).answer ≡ Refused refusal → (write_of described d limited n out).bytes ≡ out
+  pub unchanged : {refusal : Refusal} → (write_of described d limited n out).answer ≡ Err refusal → (write_of described d limited n out).bytes ≡ out
   unfolding write_of put_where in_room
   unchanged {refusal} e = go (judgement_of described d limited n) (leb (length b) (length out)) refl e
     where
-      go : (j : Judgement) (t : Bool) → leb (length b) (length out) ≡ t → (put_where j b out).answer ≡ Refused refusal → (put_where j b out).bytes ≡ out
-      go judgement.Passed true q e = impossible (cc (rw q at e))
-      go judgement.Passed false q e = rw q
-      go (judgement.Refused other) t q e = refl
+      go : (j : Result ⊤ Refusal) (t : Bool) → leb (length b) (length out) ≡ t → (put_where j b out).answer ≡ Err refusal → (put_where j b out).bytes ≡ out
+      go (Ok _) true q e = impossible (cc (rw q at e))
+      go (Ok _) false q e = rw q
+      go (Err other) t q e = refl
 
 -- what was read is written back, byte for byte
 pub write-back : (b : List ℕ) {t : Template} (out : List ℕ) → Bytes b → template_of b ≡ accepted t → length b ≤ length out
-    → write_of t.described t.description t.limited t.maximum out ≡ writing (Done (length b)) (b ++ drop (length b) out)
+    → write_of t.described t.description t.limited t.maximum out ≡ writing (Ok (length b)) (b ++ drop (length b) out)
 unfolding write_of judgement_of stages or_else require put_where in_room
 write-back b {t} out g e h =
     let w = written_read b g e in

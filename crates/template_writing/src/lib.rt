@@ -10,13 +10,6 @@ ghost use Rattle.template_writing.specs.Writing.{exceeds, described_bytes, templ
 use channels::{Description, Format};
 use refusals::{Quantity, Refusal};
 
-// What became of a template that was to be written: its length, or the refusal of the first stage that it fails.
-#[derive(Clone, Copy)]
-pub enum Written {
-    Done(usize),
-    Refused(Refusal),
-}
-
 // Three bytes don't hold the maximum that is wanted.
 fn exceeds(limited: bool, maximum: u32) -> bool
     ensures { result ≡ exceeds limited maximum }
@@ -136,22 +129,22 @@ fn write_fields(
     limited: bool,
     maximum: u32,
     out: &mut [u8],
-) -> Written
+) -> Result<usize, Refusal>
     requires { length bytes.now ≤ 114 }
     ensures { writing result out.new ≡ write_fields described bytes.now limited maximum out.old }
 {
     if exceeds(limited, maximum) {
-        return Written::Refused(Refusal::OutOfRange {
+        return Err(Refusal::OutOfRange {
             quantity: Quantity::Maximum,
         });
     }
     let size = described_size(described, bytes) + limited_size(limited, maximum);
     let length = 2 + size;
     if out.len() < length {
-        return Written::Refused(Refusal::Room);
+        return Err(Refusal::Room);
     }
     let end = put_template(out, size, described, bytes, limited, maximum);
-    Written::Done(end)
+    Ok(end)
 }
 
 // A template of what is wanted is written at the output's start; what isn't wanted isn't looked at.
@@ -163,18 +156,14 @@ pub fn write(
     limited: bool,
     maximum: u32,
     out: &mut [u8],
-) -> Written
+) -> Result<usize, Refusal>
     ensures { writing result out.new ≡ write_of described description limited maximum out.old }
 {
     let mut room: [u8; 114] = [0; 114]; // two inclusion bytes, and seven for each of sixteen channels
     if !described {
         return write_fields(false, &room[0..0], limited, maximum, out);
     }
-    match description_writing::put(&mut room, 0, description, Format::Compact) {
-        description_writing::Written::Done(end) => {
-            let bytes = &room[0..end];
-            write_fields(true, bytes, limited, maximum, out)
-        }
-        description_writing::Written::Refused(refusal) => Written::Refused(refusal),
-    }
+    let end = description_writing::put(&mut room, 0, description, Format::Compact)?;
+    let bytes = &room[0..end];
+    write_fields(true, bytes, limited, maximum, out)
 }

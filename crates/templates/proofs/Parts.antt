@@ -1,4 +1,5 @@
 -- What the parts of a template answer, as code goes through them: a number of few bytes, a field by where it ends, and the fields one behind the other.
+use Rattle.std.specs.Prelude.{Ok, Err, Some, None}
 use mathlib.Core.Path.{◌≡◌, refl, sym, ap, ◌∙◌}
 use mathlib.Core.Bool.{Bool, true, false, cond}
 use mathlib.Core.List.{List, [], ◌∷◌}
@@ -16,7 +17,6 @@ use Rattle.formats.specs.Compose.{at-start}
 use Rattle.formats.specs.Number.{value}
 use Rattle.formats.specs.Told.{failed}
 use Rattle.formats.specs.declared.Failure.{Failure}
-use Rattle.formats.specs.declared.Outcome.TheVariants.{Done, Failed}
 use Rattle.channels.specs.declared.Format.TheVariants.{Compact}
 use Rattle.channels.specs.declared.Description.{Description}
 use Rattle.descriptions.specs.Description.{description}
@@ -25,7 +25,6 @@ use Rattle.descriptions.specs.declared.Described.{Described}
 use Rattle.templates.specs.declared.Judged.{Judged}
 use Rattle.refusals.specs.declared.Refusal.{Refusal}
 use Rattle.refusals.specs.declared.Refusal.TheVariants.{Short, Tag, Length, Maximum, LeftOver}
-use Rattle.templates.specs.declared.End.TheVariants.{At, Missing}
 use Rattle.templates.specs.Reading.{saying, accepted, refused, require, with_content, is_shortest, at_end, limited_by, limited_from, limit_of, filled, fault_of, filling, described_by, content_of, length_and_content, template_of, end_of}
 
 -- a number that one more byte may follow, of three
@@ -45,20 +44,20 @@ module _ (s : List ℕ) (at : ℕ) where
     size : get_or s at 0 ≤ length s - (at + 1)
     end : at + 1 + get_or s at 0 ≡ e
 
-  ends : {e : ℕ} → end_of s at ≡ At e → Ends e
+  ends : {e : ℕ} → end_of s at ≡ Some e → Ends e
   unfolding end_of
   ends {e} q = go (leb (length s) at) (ltb (length s - (at + 1)) (get_or s at 0)) refl refl q
     where
-      go : (a b : Bool) → leb (length s) at ≡ a → ltb (length s - (at + 1)) (get_or s at 0) ≡ b → cond a Missing (cond b Missing (At (at + 1 + get_or s at 0))) ≡ At e → Ends e
+      go : (a b : Bool) → leb (length s) at ≡ a → ltb (length s - (at + 1)) (get_or s at 0) ≡ b → cond a None (cond b None (Some (at + 1 + get_or s at 0))) ≡ Some e → Ends e
       go true b h g q = impossible (cc)
       go false true h g q = impossible (cc)
       go false false h g q = record { there = leb-false (length s) at h; size = ltb-false (length s - (at + 1)) (get_or s at 0) g; end = cc }
 
-  pub end-within : {e : ℕ} → end_of s at ≡ At e → (at + 1 ≤ e) × (e ≤ length s)
+  pub end-within : {e : ℕ} → end_of s at ≡ Some e → (at + 1 ≤ e) × (e ≤ length s)
   end-within q = let f = ends q in (omega (arith, f.there, f.size, f.end), omega (arith, f.there, f.size, f.end))
 
   module _ (rest : List ℕ → List ℕ → Judged) where
-    pub content-there : {e : ℕ} → end_of s at ≡ At e → with_content (drop at s) rest ≡ rest (take (e - (at + 1)) (drop (at + 1) s)) (drop e s)
+    pub content-there : {e : ℕ} → end_of s at ≡ Some e → with_content (drop at s) rest ≡ rest (take (e - (at + 1)) (drop (at + 1) s)) (drop e s)
     unfolding with_content
     content-there {e} q =
         let f = ends q in
@@ -66,11 +65,11 @@ module _ (s : List ℕ) (at : ℕ) where
         let h : get_or s at 0 ≤ length (drop (suc at) s) = simp length-drop (omega (arith, f.size)) in
         rw (n, ← f.end, add-one at, ← drop-drop (get_or s at 0) (suc at) s, drop-cons s at 0 f.there, le-leb (get_or s at 0) (length (drop (suc at) s)) h)
 
-    pub content-missing : end_of s at ≡ Missing → with_content (drop at s) rest ≡ refused Length
+    pub content-missing : end_of s at ≡ None → with_content (drop at s) rest ≡ refused Length
     unfolding end_of with_content
     content-missing q = go (leb (length s) at) (ltb (length s - (at + 1)) (get_or s at 0)) refl refl q
       where
-        go : (a b : Bool) → leb (length s) at ≡ a → ltb (length s - (at + 1)) (get_or s at 0) ≡ b → cond a Missing (cond b Missing (At (at + 1 + get_or s at 0))) ≡ Missing
+        go : (a b : Bool) → leb (length s) at ≡ a → ltb (length s - (at + 1)) (get_or s at 0) ≡ b → cond a None (cond b None (Some (at + 1 + get_or s at 0))) ≡ None
             → with_content (drop at s) rest ≡ refused Length
         go true b h g q = rw (drop_of_length-le s {i = at} (leb-true (length s) at h))
         go false true h g q =
@@ -141,15 +140,15 @@ free-from (tag ∷ b) = free-require (eqb tag 0x82) Tag _ (free-content b)
 -- ---- The description
 
 -- what the code that reads one was told, taken back to the answer
-module _ (content : List ℕ) (r : Described) (e : r ≡ described Compact (read_at (description Compact) content 0)) where
-  whole : r ≡ described Compact (run (description Compact) content)
-  whole = e ∙ ap (described Compact) (at-start (description Compact) content)
+module _ (content : List ℕ) where
+  whole : described (read_at (description Compact) content 0) ≡ described (run (description Compact) content)
+  whole = ap described (at-start (description Compact) content)
 
-  pub description-done : {n : ℕ} → r.outcome ≡ Done n → run (description Compact) content ≡ ok r.description n
-  description-done {n} q = described-done Compact (run (description Compact) content) (sym (ap (λ y. y.outcome) whole) ∙ q) ∙ ap (λ y. ok y.description n) (sym whole)
+  pub description-done : {d : Described} → described (read_at (description Compact) content 0) ≡ Ok d → run (description Compact) content ≡ ok d.description d.end
+  description-done e = (described-done (run (description Compact) content) (sym whole ∙ e)).0
 
-  pub description-failed : {f : Failure} → r.outcome ≡ Failed f → run (description Compact) content ≡ failed f
-  description-failed q = described-failed Compact (run (description Compact) content) (sym (ap (λ y. y.outcome) whole) ∙ q)
+  pub description-failed : {f : Failure} → described (read_at (description Compact) content 0) ≡ Err f → run (description Compact) content ≡ failed f
+  description-failed e = described-failed (run (description Compact) content) (sym whole ∙ e)
 
 -- from place 4 of a slice on
 module _ (s : List ℕ) (end : ℕ) (low : 4 ≤ end) (high : end ≤ length s) where

@@ -1,5 +1,5 @@
 -- What is read as a template is the encoding of a valid one, and the other way round. So no bytes have two readings.
-use Rattle.std.specs.Prelude.{◌≡◌, ◌↔◌, Bool, not, cond, ◌&&◌, ◌||◌, ℕ, zero, suc, ◌+◌, ◌/◌, ◌%◌, ◌^◌, ◌≤◌, ◌<◌, eqb, leb, ltb, take, drop}
+use Rattle.std.specs.Prelude.{◌≡◌, ◌↔◌, Bool, not, cond, ◌&&◌, ◌||◌, ℕ, zero, suc, ◌+◌, ◌/◌, ◌%◌, ◌^◌, ◌≤◌, ◌<◌, eqb, leb, ltb, take, drop, Ok}
 use Rattle.std.proofs.Math.Path.{refl, ap, ap₂}
 use Rattle.std.proofs.Common.{sym, ◌∙◌, arith, length-append, take-append-drop, length-take-le, lt-ltb, le-ltb, le-leb, eq-eqb, ne_eqb, leb-true, eqb-true}
 use Rattle.std.proofs.Math.Logic.{by_cases}
@@ -21,7 +21,6 @@ use Rattle.descriptions.specs.Read.{nothing}
 use Rattle.templates.specs.declared.Template.{Template}
 use Rattle.refusals.specs.declared.Refusal.{Refusal}
 use Rattle.refusals.specs.declared.Refusal.TheVariants.{Short, Tag, Length, Maximum, LeftOver}
-use Rattle.refusals.specs.declared.Judgement.TheVariants.{Passed}
 use Rattle.templates.specs.declared.Judged.{Judged}
 use Rattle.templates.specs.Template.{field, fewest, shortest, encode_described, encode_limited, encode, Describes, Limits, ValidTemplate, IsTemplate}
 use Rattle.templates.specs.Reading.{saying, accepted, refused, require, with_content, is_shortest, at_end, limited_by, limited_from, filling, described_by, content_of, length_and_content, template_of}
@@ -261,10 +260,10 @@ written_read (x ∷ n ∷ c) g e =
 -- ---- What follows
 
 -- bytes are accepted if and only if they are a template
-pub accepted-iff : (b : List ℕ) → Bytes b → ((template_of b).verdict ≡ Passed) ↔ IsTemplate b
+pub accepted-iff : (b : List ℕ) → Bytes b → ((template_of b).verdict ≡ Ok tt) ↔ IsTemplate b
 accepted-iff b g = (to, λ t. ap (λ j. j.verdict) (ap template_of t.written ∙ read-written t.template t.valid))
   where
-    to : (template_of b).verdict ≡ Passed → IsTemplate b
+    to : (template_of b).verdict ≡ Ok tt → IsTemplate b
     to e =
         let q : template_of b ≡ accepted (template_of b).template = ap (λ v. record { verdict = v; template = (template_of b).template }) e in
         let w = written_read b g q in

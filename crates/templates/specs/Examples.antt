@@ -1,5 +1,5 @@
 -- The templates of the scope that are none of its examples (those stand in the crate `examples`), that of annex C.2.1, and each refusal: some bytes, and what reading them answers.
-use Rattle.std.specs.Prelude.{◌≡◌, refl, true, false, List, [], ◌∷◌, ◌++◌, map, ℕ, pos, replicate}
+use Rattle.std.specs.Prelude.{◌≡◌, refl, true, false, List, [], ◌∷◌, ◌++◌, map, ℕ, pos, replicate, Result, Ok, Err, Some, ⊤}
 use Rattle.formats.specs.Reader as reader
 use Rattle.formats.specs.Reader.{next, run, bind, each, one}
 use Rattle.formats.specs.Number.{number}
@@ -12,12 +12,10 @@ use Rattle.channels.specs.declared.Format.TheVariants.{Compact}
 use Rattle.descriptions.specs.Description.{attribute, descriptor, includes, channel_of, description}
 use Rattle.descriptions.specs.Read.{nothing}
 use Rattle.refusals.specs.declared.Refusal.TheVariants.{Short, Tag, Length, Maximum, XOrY, ReservedBit, LeftOver}
-use Rattle.refusals.specs.declared.Judgement.{Judgement}
-use Rattle.refusals.specs.declared.Judgement.TheVariants.{Passed, Refused}
 use Rattle.refusals.specs.Table.{number_of}
-use Rattle.refusals.specs.declared.Where.TheVariants.{At}
 use Rattle.templates.specs.declared.Judged.{Judged}
 use Rattle.templates.specs.Reading.{saying, accepted, refused, with_content, is_shortest, at_end, limited_by, limited_from, filling, described_by, content_of, length_and_content, template_of}
+use Rattle.refusals.specs.declared.Refusal.{Refusal}
 
 -- a channel of which nothing is said but that it is included, and DT scaled by 100 and constant
 abbrev plain : Descriptor
@@ -48,9 +46,9 @@ abbrev xy : List Descriptor → Description
 xy others = record { channels = plain ∷ plain ∷ others; mark = Compact }
 
 -- the number of a refusal, and 0 for a template
-abbrev numbered : Judgement → ℕ
-numbered Passed = 0
-numbered (Refused refusal) = number_of refusal
+abbrev numbered : Result ⊤ Refusal → ℕ
+numbered (Ok _) = 0
+numbered (Err refusal) = number_of refusal
 
 record Example : Type 0 where
   bytes : List ℕ
@@ -69,7 +67,7 @@ table =
     ∷ example [] 1 (refused Short)
     ∷ example (0xB1 ∷ []) 1 (refused Short)
     ∷ example (0xB1 ∷ 0x03 ∷ 0x82 ∷ 0x01 ∷ []) 1 (refused Short)
-    ∷ example (0xB1 ∷ 0x06 ∷ 0x81 ∷ 0x04 ∷ 0x40 ∷ 0x00 ∷ 0x00 ∷ 0x00 ∷ []) 4 (refused (XOrY (At 4)))
+    ∷ example (0xB1 ∷ 0x06 ∷ 0x81 ∷ 0x04 ∷ 0x40 ∷ 0x00 ∷ 0x00 ∷ 0x00 ∷ []) 4 (refused (XOrY (Some 4)))
     ∷ example (0xB1 ∷ 0x06 ∷ 0x81 ∷ 0x04 ∷ 0xC0 ∷ 0x00 ∷ 0x00 ∷ 0x01 ∷ []) 5 (refused (ReservedBit 7))
     ∷ example (0xB1 ∷ 0x00 ∷ 0x82 ∷ []) 9 (refused (LeftOver 2))
     ∷ example (0xB2 ∷ []) 16 (refused Tag)

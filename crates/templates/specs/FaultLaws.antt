@@ -1,5 +1,5 @@
 -- What a refusal says: a description's keeps the number that reading a description gives, and each comes with zeros.
-use Rattle.std.specs.Prelude.{◌≡◌, refl, Bool, true, false, cond, List, [], ◌∷◌, ℕ, ◌+◌, eqb, leb, ltb, length, take, drop}
+use Rattle.std.specs.Prelude.{◌≡◌, refl, Bool, true, false, cond, List, [], ◌∷◌, ℕ, ◌+◌, eqb, leb, ltb, length, take, drop, Err}
 use Rattle.std.proofs.Common.{ap}
 use Rattle.formats.specs.Bytes.{Bytes, impossible}
 use Rattle.formats.specs.Reader.{Answer, ok, short, bad, run}
@@ -13,7 +13,6 @@ use Rattle.refusals.specs.Table.{number_of}
 use Rattle.templates.specs.declared.Template.{Template}
 use Rattle.refusals.specs.declared.Refusal.{Refusal}
 use Rattle.refusals.specs.declared.Refusal.TheVariants.{Short, Tag, Length, Maximum, LeftOver}
-use Rattle.refusals.specs.declared.Judgement.TheVariants.{Refused}
 use Rattle.templates.specs.declared.Judged.{Judged}
 use Rattle.templates.specs.Reading.{saying, accepted, refused, require, with_content, is_shortest, at_end, limited_by, limited_from, fault_of, filling, described_by, content_of, length_and_content, template_of}
 
@@ -27,7 +26,7 @@ number-kept b place g e = by-rule place ((faults-description Compact).breaks b g
 -- ---- Zeros
 
 record Zeros (j : Judged) : Type 0 where
-  zeros : {refusal : Refusal} → j.verdict ≡ Refused refusal → j ≡ refused refusal
+  zeros : {refusal : Refusal} → j.verdict ≡ Err refusal → j ≡ refused refusal
 
 zeros-accepted : (t : Template) → Zeros (accepted t)
 zeros-accepted t = record { zeros = λ e. impossible (cc) }
@@ -71,7 +70,7 @@ zeros-described (tag ∷ b) = go (eqb tag 0x81)
     go false = zeros-limited false (nothing Compact) (tag ∷ b)
 
 -- where there is no template, nothing is said of one
-pub refused-zeros : (b : List ℕ) {refusal : Refusal} → (template_of b).verdict ≡ Refused refusal → template_of b ≡ refused refusal
+pub refused-zeros : (b : List ℕ) {refusal : Refusal} → (template_of b).verdict ≡ Err refusal → template_of b ≡ refused refusal
 unfolding length_and_content template_of
 refused-zeros b e = (whole b).zeros e
   where

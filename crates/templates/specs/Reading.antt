@@ -1,5 +1,5 @@
 -- What bytes are read as, left to right: each line names what has to hold there, and the refusal where it doesn't.
-use Rattle.std.specs.Prelude.{Bool, true, false, not, cond, ◌&&◌, ◌||◌, List, [], ◌∷◌, ℕ, ◌+◌, ◌-◌, eqb, leb, ltb, length, get_or, take, drop}
+use Rattle.std.specs.Prelude.{Bool, true, false, not, cond, ◌&&◌, ◌||◌, List, [], ◌∷◌, ℕ, ◌+◌, ◌-◌, eqb, leb, ltb, length, get_or, take, drop, Result, Ok, Err, Option, Some, None, ⊤}
 use Rattle.formats.specs.Reader.{Answer, ok, short, bad, run}
 use Rattle.formats.specs.Number.{value}
 use Rattle.channels.specs.declared.Description.{Description}
@@ -7,15 +7,10 @@ use Rattle.channels.specs.declared.Format.TheVariants.{Compact}
 use Rattle.descriptions.specs.Description.{description}
 use Rattle.descriptions.specs.Read.{nothing}
 use Rattle.templates.specs.declared.Template.{Template}
-use Rattle.refusals.specs.declared.Where.TheVariants as byte
 use Rattle.refusals.specs.declared.Refusal.{Refusal}
 use Rattle.refusals.specs.declared.Refusal.TheVariants.{Short, Tag, Length, Maximum, XOrY, ReservedBit, LeftOver}
-use Rattle.refusals.specs.declared.Judgement.{Judgement}
-use Rattle.refusals.specs.declared.Judgement.TheVariants.{Passed, Refused}
 use Rattle.templates.specs.declared.Judged.{Judged}
 use Rattle.templates.specs.declared.Limit.{Limit}
-use Rattle.templates.specs.declared.End.{End}
-use Rattle.templates.specs.declared.End.TheVariants.{At, Missing}
 
 -- ---- Answers
 
@@ -24,11 +19,11 @@ abbrev pub saying : (described : Bool) (d : Description) (limited : Bool) (maxim
 saying described d limited maximum = record { described = described; description = d; limited = limited; maximum = maximum }
 
 abbrev pub accepted : Template → Judged
-accepted t = record { verdict = Passed; template = t }
+accepted t = record { verdict = (Ok tt); template = t }
 
 -- a refusal comes with zeros
 abbrev pub refused : Refusal → Judged
-refused refusal = record { verdict = Refused refusal; template = saying false (nothing Compact) false 0 }
+refused refusal = record { verdict = Err refusal; template = saying false (nothing Compact) false 0 }
 
 -- what has to hold, the refusal where it doesn't, and how to go on where it does
 abbrev pub require : Bool → Refusal → Judged → Judged
@@ -66,7 +61,7 @@ limited_from described d (tag ∷ b) = require (eqb tag 0x82) Tag (with_content 
 
 -- the refusal of a description's byte
 abbrev pub fault_of : (number place : ℕ) → Refusal
-fault_of number place = cond (eqb number 4) (XOrY (byte.At place)) (ReservedBit place)
+fault_of number place = cond (eqb number 4) (XOrY (Some place)) (ReservedBit place)
 
 -- a description has to fill its field, which starts at place 4
 unfoldable pub filling : (size : ℕ) → Answer Description → (behind : List ℕ) → Judged
@@ -101,16 +96,16 @@ template_of (tag ∷ b) = require (eqb tag 0xB1) Tag (length_and_content b)
 -- ---- What a step of the code answers
 
 -- where the content ends that the length byte at a place announces
-unfoldable pub end_of : List ℕ → (at : ℕ) → End
-end_of s at = cond (leb (length s) at) Missing (cond (ltb (length s - (at + 1)) (get_or s at 0)) Missing (At (at + 1 + get_or s at 0)))
+unfoldable pub end_of : List ℕ → (at : ℕ) → Option ℕ
+end_of s at = cond (leb (length s) at) None (cond (ltb (length s - (at + 1)) (get_or s at 0)) None (Some (at + 1 + get_or s at 0)))
 
 -- what stands behind what is said of channels, by itself: a verdict, and the maximum if it is there
 abbrev pub limit_of : Judged → Limit
 limit_of j = record { verdict = j.verdict; limited = j.template.limited; maximum = j.template.maximum }
 
-abbrev pub verdict_with : Judgement → Template → Judged
-verdict_with Passed t = accepted t
-verdict_with (Refused refusal) t = refused refusal
+abbrev pub verdict_with : Result ⊤ Refusal → Template → Judged
+verdict_with (Ok _) t = accepted t
+verdict_with (Err refusal) t = refused refusal
 
 -- a template of what is said of channels and of that
 abbrev pub filled : (described : Bool) (d : Description) → Limit → Judged

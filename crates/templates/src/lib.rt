@@ -8,8 +8,8 @@ ghost use Rattle.descriptions.specs.Read.{nothing};
 ghost use Rattle.channels.specs.declared.Format.TheVariants.{Compact};
 
 use channels::{Description, Format};
-use formats::{Failure, Outcome};
-use refusals::{Judgement, Refusal, Where};
+use formats::Failure;
+use refusals::Refusal;
 
 // What a template says: a description of channels if it has one, and the largest number of points if it names one.
 // What it doesn't have is zeros here. The description stands first, where no gap comes before it: so it is copied whole.
@@ -24,7 +24,7 @@ pub struct Template {
 // What was found, and the template, which is all zeros where there is none.
 #[derive(Clone, Copy)]
 pub struct Judged {
-    pub verdict: Judgement,
+    pub verdict: Result<(), Refusal>,
     pub template: Template,
 }
 
@@ -33,7 +33,7 @@ fn refused(refusal: Refusal) -> Judged
     ensures { result ≡ refused refusal }
 {
     Judged {
-        verdict: Judgement::Refused(refusal),
+        verdict: Err(refusal),
         template: Template {
             described: false,
             description: descriptions::nothing(Format::Compact),
@@ -47,7 +47,7 @@ fn accepted(described: bool, description: Description, limited: bool, maximum: u
     ensures { result ≡ accepted (saying described description limited maximum) }
 {
     Judged {
-        verdict: Judgement::Passed,
+        verdict: Ok(()),
         template: Template {
             described: described,
             description: description,
@@ -57,25 +57,18 @@ fn accepted(described: bool, description: Description, limited: bool, maximum: u
     }
 }
 
-// Where a field ends, if all of it is there.
-#[derive(Clone, Copy)]
-enum End {
-    At(usize),
-    Missing,
-}
-
 // Where the content ends that the length byte at a place announces.
-fn end_of(s: &[u8], at: usize) -> End
+fn end_of(s: &[u8], at: usize) -> Option<usize>
     ensures { result ≡ end_of s.now at }
 {
     if s.len() <= at {
-        return End::Missing;
+        return None;
     }
     let size = s[at] as usize;
     if s.len() - (at + 1) < size {
-        return End::Missing;
+        return None;
     }
-    End::At(at + 1 + size)
+    Some(at + 1 + size)
 }
 
 // One to three bytes, and the first of several isn't zero.
@@ -100,11 +93,8 @@ fn number_of(content: &[u8]) -> u32
     ensures { result ≡ value (length content.now) content.now }
 {
     let mut number: u32 = 0;
-    let mut i: usize = 0;
-    while i < content.len() {
-        let byte = content[i] as u32;
-        number = number * 256 + byte;
-        i += 1;
+    for byte in content {
+        number = number * 256 + u32::from(*byte);
     }
     number
 }
@@ -112,7 +102,7 @@ fn number_of(content: &[u8]) -> u32
 // What stands behind what is said of channels, without it: a description is long, and is handed on only where it is read.
 #[derive(Clone, Copy)]
 struct Limit {
-    verdict: Judgement,
+    verdict: Result<(), Refusal>,
     limited: bool,
     maximum: u32,
 }
@@ -121,7 +111,7 @@ fn no_limit(refusal: Refusal) -> Limit
     ensures { result ≡ limit_of (refused refusal) }
 {
     Limit {
-        verdict: Judgement::Refused(refusal),
+        verdict: Err(refusal),
         limited: false,
         maximum: 0,
     }
@@ -131,7 +121,7 @@ fn up_to(limited: bool, maximum: u32) -> Limit
     ensures { result ≡ limit_of (accepted (saying false (nothing Compact) limited maximum)) }
 {
     Limit {
-        verdict: Judgement::Passed,
+        verdict: Ok(()),
         limited: limited,
         maximum: maximum,
     }
@@ -143,8 +133,8 @@ fn fill(described: bool, description: Description, limit: Limit) -> Judged
 {
     let verdict = limit.verdict;
     match verdict {
-        Judgement::Passed => accepted(described, description, limit.limited, limit.maximum),
-        Judgement::Refused(refusal) => refused(refusal),
+        Ok(()) => accepted(described, description, limit.limited, limit.maximum),
+        Err(refusal) => refused(refusal),
     }
 }
 
@@ -175,8 +165,8 @@ fn limited_from(s: &[u8], at: usize) -> Limit
         return no_limit(Refusal::Tag);
     }
     match end_of(s, at + 1) {
-        End::At(end) => limited_by(s, at + 2, end),
-        End::Missing => no_limit(Refusal::Length),
+        Some(end) => limited_by(s, at + 2, end),
+        None => no_limit(Refusal::Length),
     }
 }
 
@@ -186,27 +176,22 @@ fn described_by(s: &[u8], end: usize) -> Judged
     ensures { result ≡ described_by (take (end - 4) (drop 4 s.now)) (drop end s.now) }
 {
     let content = &s[4..end];
-    let described = descriptions::read(content, 0, Format::Compact);
-    let outcome = described.outcome;
-    let description = described.description;
-    match outcome {
-        Outcome::Done(size) => {
-            if size != end - 4 {
+    match descriptions::read(content, 0, Format::Compact) {
+        Ok(described) => {
+            if described.end != end - 4 {
                 return refused(Refusal::Length);
             }
-            fill(true, description, limited_from(s, end))
+            fill(true, described.description, limited_from(s, end))
         }
-        Outcome::Failed(failure) => match failure {
-            Failure::Short => refused(Refusal::Length),
-            Failure::Bad(number, place) => {
-                if number == 4 {
-                    return refused(Refusal::XOrY {
-                        place: Where::At(4 + place),
-                    });
-                }
-                refused(Refusal::ReservedBit { place: 4 + place })
+        Err(Failure::Short) => refused(Refusal::Length),
+        Err(Failure::Bad(number, place)) => {
+            if number == 4 {
+                return refused(Refusal::XOrY {
+                    place: Some(4 + place),
+                });
             }
-        },
+            refused(Refusal::ReservedBit { place: 4 + place })
+        }
     }
 }
 
@@ -229,8 +214,8 @@ fn content_of(s: &[u8]) -> Judged
         );
     }
     match end_of(s, 3) {
-        End::At(end) => described_by(s, end),
-        End::Missing => refused(Refusal::Length),
+        Some(end) => described_by(s, end),
+        None => refused(Refusal::Length),
     }
 }
 

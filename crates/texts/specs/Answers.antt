@@ -1,10 +1,16 @@
--- Each public function that a text is lent to leaves one text: whatever meets its promise holds the same and has as many bytes gathered.
+-- Each public function leaves one text: whatever meets its promise holds the same and has as many bytes gathered.
 use Rattle.std.specs.Prelude.{◌≡◌, List, ℕ, ℤ}
 use Rattle.formats.specs.OneAnswer.{OneAnswer, named}
-use Rattle.texts.specs.Gathered.{Gathered, joins, joins_all}
+use Rattle.texts.specs.Gathered.{Gathered, empty, written_out, joins, joins_all}
 use Rattle.texts.specs.Digits.{joins_number, joins_field, joins_long, hex_word}
 
+pub one_empty : OneAnswer (λ r. r ≡ empty)
+one_empty = named
+
 module _ (t : Gathered) where
+  pub one_written : OneAnswer (λ r. r ≡ written_out t)
+  one_written = named
+
   pub one_byte : (byte : ℕ) → OneAnswer (λ r. r ≡ joins t byte)
   one_byte byte = named
 

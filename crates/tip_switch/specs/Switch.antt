@@ -1,13 +1,9 @@
 -- S in a sample point: one byte that holds the number 0 or 1 (7.4.2, as decided: docs/DECISIONS.md).
 -- This file alone says how the tip switch is stored.
-use Rattle.std.specs.Prelude.{◌≡◌, refl, Bool, true, false, cond, ◌&&◌, ℕ, ◌<◌, T, leb, ℤ, pos, negsuc, nat_abs}
+use Rattle.std.specs.Prelude.{◌≡◌, refl, Bool, true, false, cond, ◌&&◌, ℕ, ◌<◌, T, leb, ℤ, pos, negsuc, nat_abs, Option, Some, None}
 use Rattle.std.proofs.Common.{arith, ltb→lt, lt→ltb, leb-true, le-leb}
 use Rattle.std.specs.Int.Signed.{non_neg, lt_z}
 use Rattle.formats.specs.Bytes.{impossible}
-use Rattle.channels.specs.declared.Stored.{Stored}
-use Rattle.channels.specs.declared.Stored.TheVariants.{Number, Outside}
-use Rattle.tip_switch.specs.declared.Switch.{Switch}
-use Rattle.tip_switch.specs.declared.Switch.TheVariants.{State, NotAdmitted}
 
 -- the bytes that are admitted, one of them, and the state that one stands for
 abbrev pub admitted : ℕ → Bool
@@ -27,26 +23,26 @@ unfoldable pub byte_of : ℤ → ℕ
 byte_of v = nat_abs v
 
 -- what code answers
-unfoldable pub state_if : ℕ → Switch
-state_if byte = cond (admitted byte) (State (state_of byte)) NotAdmitted
+unfoldable pub state_if : ℕ → Option ℤ
+state_if byte = cond (admitted byte) (Some (state_of byte)) None
 
-unfoldable pub byte_if : ℤ → Stored
-byte_if v = cond (is_state v) (Number (byte_of v)) Outside
+unfoldable pub byte_if : ℤ → Option ℕ
+byte_if v = cond (is_state v) (Some (byte_of v)) None
 
 -- what an answer says of the byte
-pub state-found : (b : ℕ) {v : ℤ} → state_if b ≡ State v → (admitted b ≡ true) × (state_of b ≡ v)
+pub state-found : (b : ℕ) {v : ℤ} → state_if b ≡ Some v → (admitted b ≡ true) × (state_of b ≡ v)
 unfolding state_if
 state-found b {v} e = go (admitted b) refl e
   where
-    go : (t : Bool) → admitted b ≡ t → cond t (State (state_of b)) NotAdmitted ≡ State v → (admitted b ≡ true) × (state_of b ≡ v)
+    go : (t : Bool) → admitted b ≡ t → cond t (Some (state_of b)) None ≡ Some v → (admitted b ≡ true) × (state_of b ≡ v)
     go true h q = (h, cc)
     go false h q = impossible (cc)
 
-pub state-refused : (b : ℕ) → state_if b ≡ NotAdmitted → admitted b ≡ false
+pub state-refused : (b : ℕ) → state_if b ≡ None → admitted b ≡ false
 unfolding state_if
 state-refused b e = go (admitted b) refl e
   where
-    go : (t : Bool) → admitted b ≡ t → cond t (State (state_of b)) NotAdmitted ≡ NotAdmitted → admitted b ≡ false
+    go : (t : Bool) → admitted b ≡ t → cond t (Some (state_of b)) None ≡ None → admitted b ≡ false
     go true h q = impossible (cc)
     go false h q = h
 

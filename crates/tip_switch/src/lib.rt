@@ -4,8 +4,6 @@
 ghost use Rattle.std.specs.Prelude.{◌≡◌};
 ghost use Rattle.tip_switch.specs.Switch.{state_of, state_if, byte_if};
 
-use channels::Stored;
-
 // The state that a byte of S stands for where it is admitted, which `state_of` says: a byte that was judged is not asked again.
 pub fn state(byte: u8) -> i32
     ensures { result ≡ state_of byte }
@@ -13,32 +11,25 @@ pub fn state(byte: u8) -> i32
     byte as i32
 }
 
-// What a byte of S stands for, if anything.
-#[derive(Clone, Copy)]
-pub enum Switch {
-    State(i32),
-    NotAdmitted,
-}
-
 // The state of the tip switch that a byte of a sample point stands for (7.4.2, as decided).
-pub fn state_of(byte: u8) -> Switch
+pub fn state_of(byte: u8) -> Option<i32>
     ensures { result ≡ state_if byte }
 {
     if 1 < byte {
-        return Switch::NotAdmitted;
+        return None;
     }
-    Switch::State(state(byte))
+    Some(state(byte))
 }
 
 // The byte of a sample point for a state of the tip switch.
-pub fn byte_of(state: i32) -> Stored
+pub fn byte_of(state: i32) -> Option<u16>
     ensures { result ≡ byte_if state }
 {
     if state < 0 {
-        return Stored::Outside;
+        return None;
     }
     if 2 <= state {
-        return Stored::Outside;
+        return None;
     }
-    Stored::Number(state as u16)
+    Some(state as u16)
 }

@@ -1,4 +1,5 @@
 -- The template of a record that is put aside, where there is room for every one: how that ended says how its numbers are judged, and so how the record is.
+use Rattle.std.specs.Prelude.{Result, Ok, Err, ⊤}
 use mathlib.Core.Path.{◌≡◌, refl, ap, ap₂, ◌∙◌}
 use mathlib.Core.Bool.{true, false}
 use mathlib.Core.List.{List, [], ◌++◌}
@@ -13,8 +14,6 @@ use Rattle.formats.specs.Lent.{writing}
 use Rattle.refusals.specs.Stages.{require, or_else, stages, compactly, or-else-last}
 use Rattle.refusals.specs.Table.{in_compact}
 use Rattle.refusals.specs.declared.Refusal.{Refusal}
-use Rattle.refusals.specs.declared.Judgement.{Judgement}
-use Rattle.refusals.specs.declared.Judgement.TheVariants as judgement
 use Rattle.channels.specs.declared.Description.{Description}
 use Rattle.channels.specs.declared.Format.TheVariants.{Compact}
 use Rattle.description_judging.specs.Judging as described
@@ -24,24 +23,22 @@ use Rattle.templates.specs.Reading.{saying}
 use Rattle.templates.specs.EncodedLaws.{described-size}
 use Rattle.template_writing.specs.Writing.{description_stage, exceeds, in_room, put_where, write_of}
 use Rattle.template_writing.specs.Writing as template-writing
-use Rattle.template_writing.specs.declared.Written.{Written}
-use Rattle.template_writing.specs.declared.Written.TheVariants.{Done, Refused}
 use Rattle.turning.specs.Turning.{compacted, judged_body, judgement_of}
 
 -- ---- How a record is judged, by its description's numbers
 
 module _ (r : Record) where
-  pub by-body : described.judgement_of Compact (compacted r.description) ≡ judgement.Passed → judgement_of r ≡ judged_body r
+  pub by-body : described.judgement_of Compact (compacted r.description) ≡ Ok tt → judgement_of r ≡ judged_body r
   unfolding judgement_of stages or_else compactly
   by-body e = rw e (or-else-last (judged_body r))
 
-  pub by-numbers : {refusal : Refusal} → described.judgement_of Compact (compacted r.description) ≡ judgement.Refused refusal → judgement_of r ≡ judgement.Refused (in_compact refusal)
+  pub by-numbers : {refusal : Refusal} → described.judgement_of Compact (compacted r.description) ≡ Err refusal → judgement_of r ≡ Err (in_compact refusal)
   unfolding judgement_of stages or_else compactly
   by-numbers e = rw e
 
 -- ---- The template put aside
 
-module _ (d : Description) (a : Written) (t : List ℕ) (p : writing a t ≡ write_of true d false 0 (replicate 118 0)) where
+module _ (d : Description) (a : Result ℕ Refusal) (t : List ℕ) (p : writing a t ≡ write_of true d false 0 (replicate 118 0)) where
   abbrev bytes : List ℕ
   bytes = encode (saying true d false 0)
 
@@ -53,31 +50,31 @@ module _ (d : Description) (a : Written) (t : List ℕ) (p : writing a t ≡ wri
   unfolding template-writing.judgement_of description_stage exceeds stages or_else require
   judged = or-else-last (described.judgement_of Compact d)
 
-  by : {j : Judgement} → described.judgement_of Compact d ≡ j → writing a t ≡ put_where j bytes (replicate 118 0)
+  by : {j : Result ⊤ Refusal} → described.judgement_of Compact d ≡ j → writing a t ≡ put_where j bytes (replicate 118 0)
   unfolding write_of
   by e = p ∙ ap (λ j. put_where j bytes (replicate 118 0)) (judged ∙ e)
 
-  done : described.judgement_of Compact d ≡ judgement.Passed → writing a t ≡ writing (Done (length bytes)) (bytes ++ drop (length bytes) (replicate 118 0))
+  done : described.judgement_of Compact d ≡ Ok tt → writing a t ≡ writing (Ok (length bytes)) (bytes ++ drop (length bytes) (replicate 118 0))
   unfolding put_where in_room
   done e = by e ∙ rw (le-leb (length bytes) (length {A = ℕ} (replicate 118 0)) (omega (arith, small)))
 
-  refused : {refusal : Refusal} → described.judgement_of Compact d ≡ judgement.Refused refusal → a ≡ Refused refusal
+  refused : {refusal : Refusal} → described.judgement_of Compact d ≡ Err refusal → a ≡ Err refusal
   unfolding put_where
   refused e = ap (λ x. x.answer) (by e)
 
-  pub aside-done : {n : ℕ} → a ≡ Done n → (described.judgement_of Compact d ≡ judgement.Passed) × (n ≤ length t) × (take (n - 0) t ≡ bytes)
+  pub aside-done : {n : ℕ} → a ≡ Ok n → (described.judgement_of Compact d ≡ Ok tt) × (n ≤ length t) × (take (n - 0) t ≡ bytes)
   aside-done {n} q = go (described.judgement_of Compact d) refl
     where
-      go : (j : Judgement) → described.judgement_of Compact d ≡ j → (described.judgement_of Compact d ≡ judgement.Passed) × (n ≤ length t) × (take (n - 0) t ≡ bytes)
-      go judgement.Passed e =
+      go : (j : Result ⊤ Refusal) → described.judgement_of Compact d ≡ j → (described.judgement_of Compact d ≡ Ok tt) × (n ≤ length t) × (take (n - 0) t ≡ bytes)
+      go (Ok tt) e =
           let f = ap (λ x. x.answer) (done e) in
           let y : n ≡ length bytes = cc in
           (e, omega (arith, ap length (ap (λ x. x.bytes) (done e)), length-append bytes (drop (length bytes) (replicate 118 0))), ap₂ take (sub-zero n ∙ y) (ap (λ x. x.bytes) (done e)) ∙ take_at bytes (drop (length bytes) (replicate 118 0)) (length bytes) refl)
-      go (judgement.Refused refusal) e = let f = refused e in impossible (cc)
+      go (Err refusal) e = let f = refused e in impossible (cc)
 
-  pub aside-refused : {refusal : Refusal} → a ≡ Refused refusal → described.judgement_of Compact d ≡ judgement.Refused refusal
+  pub aside-refused : {refusal : Refusal} → a ≡ Err refusal → described.judgement_of Compact d ≡ Err refusal
   aside-refused {refusal} q = go (described.judgement_of Compact d) refl
     where
-      go : (j : Judgement) → described.judgement_of Compact d ≡ j → j ≡ judgement.Refused refusal
-      go judgement.Passed e = let f = ap (λ x. x.answer) (done e) in impossible (cc)
-      go (judgement.Refused other) e = let f = refused e in cc
+      go : (j : Result ⊤ Refusal) → described.judgement_of Compact d ≡ j → j ≡ Err refusal
+      go (Ok _) e = let f = ap (λ x. x.answer) (done e) in impossible (cc)
+      go (Err other) e = let f = refused e in cc

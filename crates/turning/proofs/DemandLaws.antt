@@ -1,6 +1,6 @@
 -- The claims of `Demands` hold. A record that was turned passed every stage and found room for both, by cases of each: so template and body are what their writers put, and read back.
 -- One that was read is refused with 21 or for want of room alone: its stages say no more than 12, which becomes 21.
-use Rattle.std.specs.Prelude.{◌≡◌, ◌⊎◌, Bool, not, ◌&&◌, List, [], ◌∷◌, ◌++◌, ℕ, ◌*◌, ◌≤◌, ◌+◌, leb, ltb, ℤ, length, take, drop, get_or}
+use Rattle.std.specs.Prelude.{◌≡◌, ◌⊎◌, Bool, not, ◌&&◌, List, [], ◌∷◌, ◌++◌, ℕ, ◌*◌, ◌≤◌, ◌+◌, leb, ltb, ℤ, length, take, drop, get_or, Ok, Err, Result, ⊤}
 use Rattle.std.proofs.Math.Path.{refl}
 use Rattle.std.proofs.Common.{ap, ◌∙◌, sym, ap₂, inl, inr, arith, drop_at}
 use Rattle.std.proofs.Math.Bool.{true, false, cond}
@@ -19,8 +19,6 @@ use Rattle.refusals.specs.declared.Quantity.{Quantity}
 use Rattle.refusals.specs.declared.Quantity.TheVariants as quantity
 use Rattle.refusals.specs.declared.Refusal.{Refusal}
 use Rattle.refusals.specs.declared.Refusal.TheVariants.{OutOfRange, NotCompact, Room, NoPoint}
-use Rattle.refusals.specs.declared.Judgement.{Judgement}
-use Rattle.refusals.specs.declared.Judgement.TheVariants as judgement
 use Rattle.channels.specs.Channel.{is_same}
 use Rattle.channels.specs.Descriptors.{stored, included}
 use Rattle.channels.specs.declared.Description.{Description}
@@ -43,24 +41,24 @@ use Rattle.records.specs.Demands.{write-after-read}
 use Rattle.record_points.specs.Pointing.{places_in}
 use Rattle.record_writing.specs.Write as record-writing
 use Rattle.record_writing.proofs.RoundTrips.{read-written}
-use Rattle.record_writing.specs.declared.Written.TheVariants as record-written
 use Rattle.templates.specs.Template.{encode}
 use Rattle.templates.specs.Reading.{accepted, template_of}
 use Rattle.template_writing.specs.Writing as template-writing
 use Rattle.template_writing.proofs.ReadBack.{read_back}
-use Rattle.template_writing.specs.declared.Written.TheVariants as template-written
 use Rattle.bodies.specs.Reading.{exceeds, ruling, read, judged_by, pointed_by, places_if, places_by}
 use Rattle.bodies.specs.Writing.{count_fits, judgement_by, write_by}
 use Rattle.bodies.specs.Writing as body-writing
 use Rattle.bodies.specs.Demands.{said, points_read}
 use Rattle.bodies.proofs.DemandLaws.{reads-back}
 use Rattle.bodies.specs.declared.Judged.{Judged}
-use Rattle.bodies.specs.declared.Pointed.TheVariants as pointed
-use Rattle.bodies.specs.declared.Verdict.TheVariants as verdict
-use Rattle.bodies.specs.declared.Written.TheVariants as body-written
 use Rattle.turning.specs.Turning.{compacted, template_for, body_bytes, body_judgement, judgement_of, Turning, turning, put_both, turned, turn_of}
-use Rattle.turning.specs.declared.Turned.TheVariants.{Both, Refused}
 use Rattle.turning.specs.Demands.{Turns, full, TemplateReadsBack, BodyReadsBack, SamePlaces, IsBothWriters, TurnsBack, RefusesOnly}
+use Rattle.bodies.specs.declared.Refused.TheVariants as whose
+use Rattle.turning.specs.declared.Turned.{Turned}
+
+-- two answers that are one have the same sizes
+sizes_in : {x y : Turned} → ◌≡◌ {A = Result Turned Refusal} (Ok x) (Ok y) → x ≡ y
+sizes_in e = cc
 
 -- a record that is the whole slice has no byte behind it
 pub by-record : (n : ℕ) (r : Record) (template body : List ℕ) → turn_of n (ok r n) template body ≡ turned r template body
@@ -79,15 +77,15 @@ module _ (r : Record) where
 
   -- every stage passed: so the body's writer passes what it is handed without extended data, and there are none
   pub record Passes : Type 0 where
-    pub described : described.judgement_of Compact (compacted r.description) ≡ judgement.Passed
-    pub numbered : judgement_by flags false 0 (length r.points) (laid r) false ≡ judgement.Passed
+    pub described : described.judgement_of Compact (compacted r.description) ≡ Ok tt
+    pub numbered : judgement_by flags false 0 (length r.points) (laid r) false ≡ Ok tt
     pub alone : present r.extended ≡ false
 
-  not-wanted : (count : ℕ) (numbers : List ℤ) (wanted : Bool) → judgement_by flags false 0 count numbers wanted ≡ judgement.Passed → wanted ≡ false
+  not-wanted : (count : ℕ) (numbers : List ℤ) (wanted : Bool) → judgement_by flags false 0 count numbers wanted ≡ Ok tt → wanted ≡ false
   unfolding judgement_by
   not-wanted count numbers wanted e = let x = stages-passed _ e in not-true wanted (require-passed _ _ x.1.1.0)
 
-  pub passes : judgement_of r ≡ judgement.Passed → Passes
+  pub passes : judgement_of r ≡ Ok tt → Passes
   unfolding judgement_of body_judgement
   passes e =
       let x = stages-passed _ e in
@@ -104,10 +102,10 @@ module _ (r : Record) where
   module _ (template body : List ℕ) where
     -- where there is room for both, and where there is not
     abbrev pub in_room : Bool → Turning
-    in_room room = cond room (turning (Both (length first) (length second)) (puts template 0 first) (puts body 0 second)) (turning (Refused Room) template body)
+    in_room room = cond room (turning (Ok (record { template = length first; body = length second })) (puts template 0 first) (puts body 0 second)) (turning (Err Room) template body)
 
     -- where every stage is passed the room decides
-    pub by-stages : put_both first second template body judgement.Passed ≡ in_room (leb (length first) (length template) && leb (length second) (length body))
+    pub by-stages : put_both first second template body (Ok tt) ≡ in_room (leb (length first) (length template) && leb (length second) (length body))
     unfolding put_both
     by-stages = refl
 
@@ -122,11 +120,11 @@ module _ (r : Record) where
       pub body-holds : b ≡ puts body 0 second
 
     by-room : {t b : List ℕ} {n m : ℕ} (one other : Bool) → Passes → leb (length first) (length template) ≡ one → leb (length second) (length body) ≡ other
-        → turning (Both n m) t b ≡ in_room (one && other) → Made t b n m
+        → turning (Ok (record { template = n; body = m })) t b ≡ in_room (one && other) → Made t b n m
     by-room {t} {b} {n} {m} true true p h g e =
-        let q = ap (λ x. x.answer) e in
-        let y : n ≡ length first = cc in
-        let z : m ≡ length second = cc in
+        let q = sizes_in {x = record { template = n; body = m }} {y = record { template = length first; body = length second }} (ap (λ x. x.answer) e) in
+        let y : n ≡ length first = ap (λ (x : Turned). x.template) q in
+        let z : m ≡ length second = ap (λ (x : Turned). x.body) q in
         let u : length first ≤ length template = leb-true (length first) (length template) h in
         let v : length second ≤ length body = leb-true (length second) (length body) g in
         record {
@@ -141,13 +139,13 @@ module _ (r : Record) where
     by-room true false p h g e = impossible (cc (ap (λ x. x.answer) e))
     by-room false other p h g e = impossible (cc (ap (λ x. x.answer) e))
 
-    pub made : {t b : List ℕ} {n m : ℕ} → turning (Both n m) t b ≡ turned r template body → Made t b n m
+    pub made : {t b : List ℕ} {n m : ℕ} → turning (Ok (record { template = n; body = m })) t b ≡ turned r template body → Made t b n m
     unfolding turned put_both
     made {t} {b} {n} {m} e = go (judgement_of r) refl e
       where
-        go : (j : Judgement) → judgement_of r ≡ j → turning (Both n m) t b ≡ put_both first second template body j → Made t b n m
-        go judgement.Passed h q = by-room (leb (length first) (length template)) (leb (length second) (length body)) (passes h) refl refl (q ∙ by-stages)
-        go (judgement.Refused refusal) h q = impossible (cc (ap (λ x. x.answer) q))
+        go : (j : Result ⊤ Refusal) → judgement_of r ≡ j → turning (Ok (record { template = n; body = m })) t b ≡ put_both first second template body j → Made t b n m
+        go (Ok _) h q = by-room (leb (length first) (length template)) (leb (length second) (length body)) (passes h) refl refl (q ∙ by-stages)
+        go (Err refusal) h q = impossible (cc (ap (λ x. x.answer) q))
 
 -- ---- What refuses
 
@@ -156,21 +154,21 @@ abbrev pub IsNotCompact : Refusal → Type 0
 IsNotCompact refusal = (quantity : Quantity) × (refusal ≡ NotCompact quantity)
 
 -- a stage refuses with nothing else
-abbrev Only : Judgement → Type 0
-Only judgement.Passed = Unit {0}
-Only (judgement.Refused refusal) = IsNotCompact refusal
+abbrev Only : Result ⊤ Refusal → Type 0
+Only (Ok _) = Unit {0}
+Only (Err refusal) = IsNotCompact refusal
 
 only-require : (t : Bool) (quantity : Quantity) → Only (require t (NotCompact quantity))
 unfolding require
 only-require true quantity = tt
 only-require false quantity = (quantity, refl)
 
-only-behind : (a b : Judgement) → Only a → Only b → Only (or_else a b)
+only-behind : (a b : Result ⊤ Refusal) → Only a → Only b → Only (or_else a b)
 unfolding or_else
-only-behind judgement.Passed b h g = g
-only-behind (judgement.Refused refusal) b h g = h
+only-behind (Ok _) b h g = g
+only-behind (Err refusal) b h g = h
 
-only-stages : (l : List Judgement) → All Only l → Only (stages l)
+only-stages : (l : List (Result ⊤ Refusal)) → All Only l → Only (stages l)
 unfolding stages
 only-stages [] h = tt
 only-stages (stage ∷ l) h = only-behind stage (stages l) h.0 (only-stages l h.1)
@@ -213,17 +211,17 @@ module _ (r : Record) (valid : Valid r) where
       _
       (only-description r.description valid.description, (only-body flags (length r.points) (laid r) (present r.extended) (values-many (size flags) r.points sizes Point), tt))
 
-  pub refused-only : (template body : List ℕ) {t b : List ℕ} {refusal : Refusal} → turning (Refused refusal) t b ≡ turned r template body → IsNotCompact refusal ⊎ (refusal ≡ Room)
+  pub refused-only : (template body : List ℕ) {t b : List ℕ} {refusal : Refusal} → turning (Err refusal) t b ≡ turned r template body → IsNotCompact refusal ⊎ (refusal ≡ Room)
   unfolding turned put_both
   refused-only template body {t} {b} {refusal} e = go (judgement_of r) only-turned e
     where
-      by_size : (room : Bool) → turning (Refused refusal) t b ≡ in_room r template body room → refusal ≡ Room
+      by_size : (room : Bool) → turning (Err refusal) t b ≡ in_room r template body room → refusal ≡ Room
       by_size true q = impossible (cc (ap (λ x. x.answer) q))
       by_size false q = cc (ap (λ x. x.answer) q)
 
-      go : (j : Judgement) → Only j → turning (Refused refusal) t b ≡ put_both (first r) (second r) template body j → IsNotCompact refusal ⊎ (refusal ≡ Room)
-      go judgement.Passed h q = inr (by_size (leb (length (first r)) (length template) && leb (length (second r)) (length body)) (q ∙ by-stages r template body))
-      go (judgement.Refused other) h q = let same : refusal ≡ other = cc (ap (λ x. x.answer) q) in inl (h.0, same ∙ h.1)
+      go : (j : Result ⊤ Refusal) → Only j → turning (Err refusal) t b ≡ put_both (first r) (second r) template body j → IsNotCompact refusal ⊎ (refusal ≡ Room)
+      go (Ok _) h q = inr (by_size (leb (length (first r)) (length template) && leb (length (second r)) (length body)) (q ∙ by-stages r template body))
+      go (Err other) h q = let same : refusal ≡ other = cc (ap (λ x. x.answer) q) in inl (h.0, same ∙ h.1)
 
 -- extended data that aren't present have no bytes
 none-there : (e : Option (List ℕ)) → present e ≡ false → extended_bytes e ≡ []
@@ -258,9 +256,9 @@ module _ {s : List ℕ} {r : Record} {template body t b : List ℕ} {n m : ℕ} 
       let z : 0 + length bytes ≡ n = omega (arith, result.template-long) in
       result.template-holds ∙ puts-is template 0 bytes (omega (arith, result.template-room)) ∙ ap (λ k. bytes ++ drop k template) z
 
-  template-put : writing (template-written.Done n) t ≡ template-writing.write_of true (compacted r.description) false 0 template
+  template-put : writing (Ok n) t ≡ template-writing.write_of true (compacted r.description) false 0 template
   unfolding template-writing.write_of template-writing.judgement_of template-writing.description_stage template-writing.exceeds template-writing.put_where template-writing.in_room stages or_else require
-  template-put = rw (result.passed.described, ← result.template-long, le-leb n (length template) result.template-room) (ap (writing (template-written.Done n)) template-is)
+  template-put = rw (result.passed.described, ← result.template-long, le-leb n (length template) result.template-room) (ap (writing (Ok n)) template-is)
 
   template-read : template_of (take n t) ≡ accepted (template_for r)
   template-read = (read_back true (compacted r.description) false 0 template valid.description.sixteen (sym template-put)).0
@@ -271,21 +269,21 @@ module _ {s : List ℕ} {r : Record} {template body t b : List ℕ} {n m : ℕ} 
   -- ---- The body
 
   -- as its writer puts it by what the template says, and so by the template's bytes
-  body-put : writing (body-written.Body m) b ≡ write_by (accepted (template_for r)) count (laid r) false body
+  body-put : writing (Ok m) b ≡ write_by (accepted (template_for r)) count (laid r) false body
   unfolding write_by ruling or_else require body-writing.write_ruled body-writing.put_where
-  body-put = rw (result.passed.numbered, same_points, ← result.body-long, le-leb m (length body) result.body-room) (ap (writing (body-written.Body m)) result.body-holds)
+  body-put = rw (result.passed.numbered, same_points, ← result.body-long, le-leb m (length body) result.body-room) (ap (writing (Ok m)) result.body-holds)
 
-  body-by : writing (body-written.Body m) b ≡ write_by (template_of (take n t)) count (laid r) false body
+  body-by : writing (Ok m) b ≡ write_by (template_of (take n t)) count (laid r) false body
   body-by = body-put ∙ ap (λ j. write_by j count (laid r) false body) (sym template-read)
 
   abbrev bytes : List ℕ
   bytes = take m b
 
   abbrev judged : Judged
-  judged = record { verdict = verdict.Body count; description = compacted r.description }
+  judged = record { verdict = (Ok count); description = compacted r.description }
 
   body-judged : judged_by (template_of (take n t)) bytes ≡ judged
-  body-judged = (reads-back (take n t) count (laid r) false body m b body-by).0 ∙ ap (λ j. record { verdict = verdict.Body count; description = j.template.description }) template-read
+  body-judged = (reads-back (take n t) count (laid r) false body m b body-by).0 ∙ ap (λ j. record { verdict = (Ok count); description = j.template.description }) template-read
 
   body-read : read (said (take n t)) bytes ≡ ok r.points m
   body-read =
@@ -310,7 +308,7 @@ module _ {s : List ℕ} {r : Record} {template body t b : List ℕ} {n m : ℕ} 
   places-read index = rw judged-read (go (ltb index count))
     where
       go : (there : Bool)
-          → places_if (cond there pointed.Point (pointed.Refused NoPoint)) index (template_for r) bytes
+          → places_if (cond there (Ok tt) (Err (whose.Body NoPoint))) index (template_for r) bytes
           ≡ cond there (places_of (included r.description) channels (get_or r.points index [])) nowhere
       go true = rw points-read
       go false = refl
@@ -321,9 +319,9 @@ module _ {s : List ℕ} {r : Record} {template body t b : List ℕ} {n m : ℕ} 
   marked-full = ap (λ mark. record { channels = r.description.channels; mark = mark }) (sym valid.description.marked)
 
   full-again : (out : List ℕ) → length s ≤ length out
-      → writing (record-written.Record (length s)) (s ++ drop (length s) out) ≡ record-writing.write_of (full (compacted r.description)) count (laid r) false [] out
+      → writing (Ok (length s)) (s ++ drop (length s) out) ≡ record-writing.write_of (full (compacted r.description)) count (laid r) false [] out
   full-again out room =
-      ap (λ l. writing (record-written.Record (length s)) (l ++ drop (length s) out)) (sym (take-length s))
+      ap (λ l. writing (Ok (length s)) (l ++ drop (length s) out)) (sym (take-length s))
       ∙ sym (read-written Point s x.bytes r (length s) x.whole out room)
       ∙ ap₂ (λ wanted extended. record-writing.write_of r.description count (laid r) wanted extended out) result.passed.alone (none-there r.extended result.passed.alone)
       ∙ ap (λ d. record-writing.write_of d count (laid r) false [] out) (sym marked-full)

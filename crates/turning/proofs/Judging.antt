@@ -1,4 +1,5 @@
 -- The places of a point are judged as its numbers among the values are, and so the points of a record as its values: by the flags, as each that is set has a place with a number.
+use Rattle.std.specs.Prelude.{Result, Ok, ⊤}
 use mathlib.Core.Path.{◌≡◌, refl, sym, ap, ap₂, ◌∙◌}
 use mathlib.Core.Bool.{Bool, true, false, cond}
 use mathlib.Core.List.{List, [], ◌∷◌}
@@ -16,8 +17,6 @@ use Rattle.refusals.specs.Stages.{require, or_else}
 use Rattle.refusals.specs.Ranges.{first_misfit}
 use Rattle.refusals.specs.declared.Quantity.TheVariants.{Value}
 use Rattle.refusals.specs.declared.Refusal.TheVariants.{OutOfRange}
-use Rattle.refusals.specs.declared.Judgement.{Judgement}
-use Rattle.refusals.specs.declared.Judgement.TheVariants.{Passed}
 use Rattle.channels.specs.declared.Place.{Place}
 use Rattle.channels.specs.declared.Place.TheVariants.{Absent, Number}
 use Rattle.points.specs.Points.{stored_from, channels, point, width, fits_sample}
@@ -29,6 +28,7 @@ use Rattle.values.specs.Values.{samples_in, samples_from, samples, judgement_of}
 use Rattle.values.proofs.Lent.{next-judged, last-judged}
 use Rattle.turning.specs.Parts.{misfit_in}
 use Rattle.turning.proofs.Standing.{no_number, counted, ith, ith-size}
+use Rattle.refusals.specs.declared.Refusal.{Refusal}
 
 -- ---- The places from channel i on
 
@@ -46,7 +46,7 @@ module _ (i from : ℕ) where
       unfolding misfit_in
       take-place e = simp add-one (rw (drop-cons places i Absent h, e))
 
-    pub no_place : length places ≤ i → misfit_in i from (drop i places) ≡ Passed
+    pub no_place : length places ≤ i → misfit_in i from (drop i places) ≡ Ok tt
     unfolding misfit_in
     no_place h = rw (drop_of_length-le places {i = i} h)
 
@@ -85,14 +85,14 @@ same-misfit (flag ∷ flags) included numbers values i from same =
 
 module _ (stored : List Bool) (count : ℕ) where
   -- how those from point i on are judged, by their values
-  unfoldable pub misfit_left : (points : List (List ℤ)) (i : ℕ) → Judgement
+  unfoldable pub misfit_left : (points : List (List ℤ)) (i : ℕ) → Result ⊤ Refusal
   misfit_left points i = first_misfit (samples_from 1 1 (channels stored) (values_of Point (size stored) points) (size stored) (count - i) (i * size stored))
 
   pub all_left : (points : List (List ℤ)) → first_misfit (samples 1 stored Point count (values_of Point (size stored) points)) ≡ misfit_left points 0
   unfolding misfit_left samples step stride
   all_left points = let z : 0 * size stored ≡ 0 = omega arith in rw (z, sub-zero)
 
-  pub none_left : (points : List (List ℤ)) (i : ℕ) → count ≤ i → misfit_left points i ≡ Passed
+  pub none_left : (points : List (List ℤ)) (i : ℕ) → count ≤ i → misfit_left points i ≡ Ok tt
   unfolding misfit_left
   none_left points i h = last-judged 1 1 (channels stored) (values_of Point (size stored) points) (size stored) count i (i * size stored) h
 

@@ -1,4 +1,5 @@
 -- What is put of a record's points: a number has one byte, the places of a point have the bytes of its numbers, and those of all points are as many as their widths.
+use Rattle.std.specs.Prelude.{Option}
 use mathlib.Core.Path.{◌≡◌, refl, sym, ap, ap₂, ◌∙◌}
 use mathlib.Core.Bool.{Bool, true, false, cond}
 use mathlib.Core.List.{List, [], ◌∷◌, ◌++◌, flat_map}
@@ -16,7 +17,6 @@ use Rattle.formats.specs.Laid.{Room}
 use Rattle.channels.specs.Channel.{S}
 use Rattle.channels.specs.declared.Place.{Place}
 use Rattle.channels.specs.declared.Place.TheVariants.{Number}
-use Rattle.channels.specs.declared.Stored.{Stored}
 use Rattle.point_places.specs.Places.{unstored, places_of, places_in}
 use Rattle.points.specs.Points.{stored_from, channels, point, widths, width}
 use Rattle.values.specs.Values.{stored_sample, number_in, sample_bytes, bytes_of}
@@ -29,7 +29,7 @@ one-wide : (t : Bool) → ◌≡◌ {A = ℕ} (cond t 1 1) 1
 one-wide true = refl
 one-wide false = refl
 
-pub sample-byte : (channel : ℕ) (v : ℤ) {found : Stored} → stored_sample 1 channel v ≡ found → sample_bytes 1 channel v ≡ number_in found % 256 ∷ []
+pub sample-byte : (channel : ℕ) (v : ℤ) {found : Option ℕ} → stored_sample 1 channel v ≡ found → sample_bytes 1 channel v ≡ number_in found % 256 ∷ []
 unfolding sample_bytes digits
 sample-byte channel v e = rw (one-wide (eqb channel S), e)
 

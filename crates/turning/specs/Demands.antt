@@ -1,6 +1,6 @@
 -- What is claimed of turning (request L4), said of what the functions promise: the template reads back as the record's description marked compact,
 -- the body as the record's points, and both as the record itself.
-use Rattle.std.specs.Prelude.{◌≡◌, true, false, ◌⊎◌, List, [], ◌++◌, ℕ, ◌≤◌, length, take, drop}
+use Rattle.std.specs.Prelude.{◌≡◌, true, false, ◌⊎◌, List, [], ◌++◌, ℕ, ◌≤◌, length, take, drop, Ok, Err}
 use Rattle.formats.specs.Bytes.{Bytes}
 use Rattle.formats.specs.Reader.{ok, run}
 use Rattle.formats.specs.Lent.{writing}
@@ -15,24 +15,19 @@ use Rattle.orders.specs.declared.Order.TheVariants.{Point}
 use Rattle.records.specs.Record.{Record, full_record}
 use Rattle.record_points.specs.Pointing.{places_in}
 use Rattle.record_writing.specs.Write as record-writing
-use Rattle.record_writing.specs.declared.Written.TheVariants as record-written
 use Rattle.templates.specs.Reading.{accepted, template_of}
 use Rattle.template_writing.specs.Writing as template-writing
-use Rattle.template_writing.specs.declared.Written.TheVariants as template-written
 use Rattle.bodies.specs.Reading.{read, judged_by, places_by}
 use Rattle.bodies.specs.Writing.{write_by}
 use Rattle.bodies.specs.Demands.{said, description_of, flags, points_read}
-use Rattle.bodies.specs.declared.Verdict.TheVariants as verdict
-use Rattle.bodies.specs.declared.Written.TheVariants as body-written
 use Rattle.turning.specs.Turning.{compacted, template_for, turning, turn_of}
-use Rattle.turning.specs.declared.Turned.TheVariants.{Both, Refused}
 
 -- a whole slice is the record r, and turning it fills an output that held `template` with t and one that held `body` with b:
 -- n bytes of the first are the template, m of the second the body
 pub record Turns (s : List ℕ) (r : Record) (template body t b : List ℕ) (n m : ℕ) : Type 0 where
   pub bytes : Bytes s
   pub whole : run full_record s ≡ ok r (length s)
-  pub turns : turning (Both n m) t b ≡ turn_of (length s) (run full_record s) template body
+  pub turns : turning (Ok (record { template = n; body = m })) t b ≡ turn_of (length s) (run full_record s) template body
 
 -- ---- The claims
 
@@ -44,7 +39,7 @@ TemplateReadsBack = (s : List ℕ) (r : Record) (template body t b : List ℕ) (
 -- the body, by that template, has the record's points; behind it the output is as it was
 abbrev pub BodyReadsBack : Type 0
 BodyReadsBack = (s : List ℕ) (r : Record) (template body t b : List ℕ) (n m : ℕ) → Turns s r template body t b n m
-    → (judged_by (template_of (take n t)) (take m b) ≡ record { verdict = verdict.Body (length r.points); description = compacted r.description })
+    → (judged_by (template_of (take n t)) (take m b) ≡ record { verdict = (Ok (length r.points)); description = compacted r.description })
     × ((read (said (take n t)) (take m b) ≡ ok r.points m) × (drop m b ≡ drop m body))
 
 -- each of its points has the record's sixteen places
@@ -55,8 +50,8 @@ SamePlaces = (s : List ℕ) (r : Record) (template body t b : List ℕ) (n m : �
 -- turning is the template's writer and then, by that template, the body's
 abbrev pub IsBothWriters : Type 0
 IsBothWriters = (s : List ℕ) (r : Record) (template body t b : List ℕ) (n m : ℕ) → Turns s r template body t b n m
-    → (writing (template-written.Done n) t ≡ template-writing.write_of true (compacted r.description) false 0 template)
-    × (writing (body-written.Body m) b ≡ write_by (template_of (take n t)) (length r.points) (values_of Point (size (stored r.description)) r.points) false body)
+    → (writing (Ok n) t ≡ template-writing.write_of true (compacted r.description) false 0 template)
+    × (writing (Ok m) b ≡ write_by (template_of (take n t)) (length r.points) (values_of Point (size (stored r.description)) r.points) false body)
 
 -- a description with the mark of full records
 abbrev pub full : Description → Description
@@ -67,11 +62,11 @@ abbrev pub TurnsBack : Type 0
 TurnsBack = (s : List ℕ) (r : Record) (template body t b : List ℕ) (n m : ℕ) → Turns s r template body t b n m
     → (out : List ℕ) → length s ≤ length out
     → let points = points_read (read (said (take n t)) (take m b)) in
-    writing (record-written.Record (length s)) (s ++ drop (length s) out)
+    writing (Ok (length s)) (s ++ drop (length s) out)
     ≡ record-writing.write_of (full (description_of (take n t))) (length points) (values_of Point (size (flags (take n t))) points) false [] out
 
 -- behind the slice's own refusals only 21 and 15 are said: 4, 11, 13 and 18 can't come
 abbrev pub RefusesOnly : Type 0
 RefusesOnly = (s : List ℕ) (r : Record) (template body : List ℕ) (refusal : Refusal) → Bytes s → run full_record s ≡ ok r (length s)
-    → turning (Refused refusal) template body ≡ turn_of (length s) (run full_record s) template body
+    → turning (Err refusal) template body ≡ turn_of (length s) (run full_record s) template body
     → ((quantity : Quantity) × (refusal ≡ NotCompact quantity)) ⊎ (refusal ≡ Room)

@@ -1,5 +1,5 @@
 -- The examples of request L4's specification that turn full records: one table of questions and answers, and one claim.
-use Rattle.std.specs.Prelude.{◌≡◌, refl, ℕ, ◌-◌, length, replicate}
+use Rattle.std.specs.Prelude.{◌≡◌, refl, ℕ, ◌-◌, length, replicate, Result, Ok, Err, Some}
 use mathlib.Core.List.{List, [], ◌∷◌, ◌++◌, map, flat_map, flatten}
 use Rattle.formats.specs.Reader as reader
 use Rattle.formats.specs.Reader.{next, run, bind, each, times, one, free, literal}
@@ -11,7 +11,6 @@ use Rattle.refusals.specs.Table.{number_of, in_compact, named, refusal_of}
 use Rattle.refusals.specs.Stages.{require, or_else, stages, compactly}
 use Rattle.refusals.specs.Ranges.{first_misfit}
 use Rattle.refusals.specs.declared.AttributeName.TheVariants as attribute
-use Rattle.refusals.specs.declared.Where.TheVariants.{At}
 use Rattle.refusals.specs.declared.Quantity.TheVariants as quantity
 use Rattle.refusals.specs.declared.Refusal.{Refusal}
 use Rattle.refusals.specs.declared.Refusal.TheVariants.{Short, XOrY, LeftOver, Room, NotCompact}
@@ -31,7 +30,6 @@ use Rattle.bodies.specs.Reading.{exceeds}
 use Rattle.bodies.specs.Writing.{count_fits, judgement_by}
 use Rattle.turning.specs.Turning.{Turning, turning, body_judgement, judgement_of, put_both, turned, turn_of}
 use Rattle.turning.specs.declared.Turned.{Turned}
-use Rattle.turning.specs.declared.Turned.TheVariants.{Both, Refused}
 
 -- ---- Questions and answers
 
@@ -43,9 +41,9 @@ record Example : Type 0 where
   number : ℕ
   answer : Turning
 
-abbrev numbered : Turned → ℕ
-numbered (Both template body) = 0
-numbered (Refused refusal) = number_of refusal
+abbrev numbered : Result Turned Refusal → ℕ
+numbered (Ok sizes) = 0
+numbered (Err refusal) = number_of refusal
 
 abbrev example : (bytes : List ℕ) (for_template for_body : ℕ) → Turning → Example
 example bytes for_template for_body answer = record { bytes = bytes; for_template = for_template; for_body = for_body; number = numbered answer.answer; answer = answer }
@@ -61,12 +59,12 @@ makes bytes for_template for_body template body = record {
   for_template = for_template;
   for_body = for_body;
   number = 0;
-  answer = turning (Both (length template) (length body)) (template ++ untouched (for_template - length template)) (body ++ untouched (for_body - length body));
+  answer = turning (Ok (record { template = length template; body = length body })) (template ++ untouched (for_template - length template)) (body ++ untouched (for_body - length body));
 }
 
 -- a refusal, by its number, leaves both as they were
 abbrev refuses : (bytes : List ℕ) (for_template for_body number : ℕ) → Refusal → Example
-refuses bytes for_template for_body number refusal = record { bytes = bytes; for_template = for_template; for_body = for_body; number = number; answer = turning (Refused refusal) (untouched for_template) (untouched for_body) }
+refuses bytes for_template for_body number refusal = record { bytes = bytes; for_template = for_template; for_body = for_body; number = number; answer = turning (Err refusal) (untouched for_template) (untouched for_body) }
 
 -- ---- The table
 
@@ -82,7 +80,7 @@ table =
     ∷ refuses (opened (0xC0 ∷ 0x00 ∷ 0x00 ∷ 0x00 ∷ 0x00 ∷ 0x00 ∷ 0x00 ∷ 0x00 ∷ 0x01 ∷ 0x7F ∷ 0xFF ∷ 0x80 ∷ 0x00 ∷ [])) 8 1 15 Room
     ∷ refuses (opened (0xC0 ∷ 0x00 ∷ 0x00 ∷ 0x00 ∷ 0x00 ∷ 0x00 ∷ 0x00 ∷ 0x00 ∷ 0x01 ∷ 0x7F ∷ 0xFF ∷ 0x80 ∷ [])) 0 0 1 Short
     ∷ refuses (opened (0xC0 ∷ 0x00 ∷ 0x00 ∷ 0x00 ∷ 0x00 ∷ 0x00 ∷ 0x00 ∷ 0x00 ∷ 0x01 ∷ 0x7F ∷ 0xFF ∷ 0x80 ∷ 0x00 ∷ 0x00 ∷ [])) 0 0 9 (LeftOver 21)
-    ∷ refuses (opened (0x40 ∷ 0x00 ∷ 0x00 ∷ 0x00 ∷ 0x00 ∷ 0x00 ∷ 0x00 ∷ 0x00 ∷ 0x00 ∷ [])) 0 0 4 (XOrY (At 8))
+    ∷ refuses (opened (0x40 ∷ 0x00 ∷ 0x00 ∷ 0x00 ∷ 0x00 ∷ 0x00 ∷ 0x00 ∷ 0x00 ∷ 0x00 ∷ [])) 0 0 4 (XOrY (Some 8))
     ∷ refuses (opened (0xC0 ∷ 0x00 ∷ 0x00 ∷ 0x00 ∷ 0x00 ∷ 0x00 ∷ 0x00 ∷ 0x00 ∷ 0x01 ∷ 0x80 ∷ 0x80 ∷ 0x80 ∷ 0x00 ∷ [])) 0 0 21 (NotCompact (quantity.Value 0 0))
     ∷ refuses (opened (0xC0 ∷ 0x00 ∷ 0x00 ∷ 0x00 ∷ 0x00 ∷ 0x00 ∷ 0x00 ∷ 0x00 ∷ 0x01 ∷ 0x80 ∷ 0x7F ∷ 0x7F ∷ 0x7F ∷ [])) 0 0 21 (NotCompact (quantity.Value 1 1))
     ∷ makes (opened (0xC0 ∷ 0x00 ∷ 0x04 ∷ 0x00 ∷ 0x00 ∷ 0x00 ∷ 0x00 ∷ 0x00 ∷ 0x01 ∷ 0x80 ∷ 0x05 ∷ [])) 99 99 (0xB1 ∷ 0x06 ∷ 0x81 ∷ 0x04 ∷ 0xC0 ∷ 0x00 ∷ 0x04 ∷ 0x00 ∷ []) (0x85 ∷ [])

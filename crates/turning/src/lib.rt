@@ -13,9 +13,8 @@ ghost use Rattle.records.specs.Record.{Record, full_record};
 ghost use Rattle.turning.specs.Turning.{compacted, turning, body_judgement, judged_body, body_bytes, put_both, turned, turn_of};
 ghost use Rattle.turning.specs.Parts.{misfit_in, bytes_in};
 
-use channels::{Description, Format, Place, Stored};
-use record_reading::Verdict;
-use refusals::{Judgement, Quantity, Refusal};
+use channels::{Description, Format, Place};
+use refusals::{Quantity, Refusal};
 
 // The description of a record, marked compact: every number as it is.
 fn compact(description: Description) -> Description
@@ -29,18 +28,16 @@ fn compact(description: Description) -> Description
 }
 
 // The first number of a sample point that one byte doesn't hold, by its index among all numbers and its channel.
-fn judge_places(places: [Place; 16], from: usize) -> Judgement
+fn judge_places(places: [Place; 16], from: usize) -> Result<(), Refusal>
     requires { from < 68719476736 }
     ensures { result ≡ misfit_in 0 from places }
 {
     let mut index = from;
-    let mut channel: usize = 0;
-    while channel < 16 {
-        let place = places[channel];
-        if let Place::Number(value) = place {
+    for (channel, place) in places.iter().enumerate() {
+        if let Place::Number(value) = *place {
             let stored = values::stored_sample(Format::Compact, channel, value);
-            if let Stored::Outside = stored {
-                return Judgement::Refused(Refusal::OutOfRange {
+            if let None = stored {
+                return Err(Refusal::OutOfRange {
                     quantity: Quantity::Value {
                         index: index,
                         channel: channel,
@@ -49,13 +46,12 @@ fn judge_places(places: [Place; 16], from: usize) -> Judgement
             }
             index += 1;
         }
-        channel += 1;
     }
-    Judgement::Passed
+    Ok(())
 }
 
 // The same of all points of a record, which stand from a place on and were judged.
-fn judge_points(whole: &[u8], start: usize, stored: [bool; 16], count: usize) -> Judgement
+fn judge_points(whole: &[u8], start: usize, stored: [bool; 16], count: usize) -> Result<(), Refusal>
     requires { (start ≤ length whole.now) × (count < 4294967296) × ((points : List (List ℤ)) × (end : ℕ) × (read_at (times count (point 2 stored)) whole.now start ≡ ok points end)) }
     ensures { (points : List (List ℤ)) (end : ℕ) → read_at (times count (point 2 stored)) whole.now start ≡ ok points end → result ≡ first_misfit (samples 1 stored order.Point count (values_of order.Point (size stored) points)) }
 {
@@ -63,18 +59,13 @@ fn judge_points(whole: &[u8], start: usize, stored: [bool; 16], count: usize) ->
     let size = orders::size(stored);
     let mut at = start;
     let mut from: usize = 0;
-    let mut i: usize = 0;
-    while i < count {
+    for _ in 0..count {
         let places = point_places::places(whole, at, Format::Full, stored, stored);
-        let judged = judge_places(places, from);
-        if let Judgement::Refused(_) = judged {
-            return judged;
-        }
+        judge_places(places, from)?;
         at += width;
         from += size;
-        i += 1;
     }
-    Judgement::Passed
+    Ok(())
 }
 
 // The stages of the body: the count, the values, extended data. A record's count and its amount of values are never wrong.
@@ -84,25 +75,25 @@ fn judge_body(
     stored: [bool; 16],
     count: usize,
     extended: bool,
-) -> Judgement
+) -> Result<(), Refusal>
     requires { (start ≤ length whole.now) × (count < 4294967296) × ((points : List (List ℤ)) × (end : ℕ) × (read_at (times count (point 2 stored)) whole.now start ≡ ok points end)) }
     ensures { (points : List (List ℤ)) (end : ℕ) → read_at (times count (point 2 stored)) whole.now start ≡ ok points end → result ≡ body_judgement stored count points extended }
 {
     if !bodies::count_fits(count, points::width(Format::Compact, stored)) {
-        return Judgement::Refused(Refusal::NotCompact {
+        return Err(Refusal::NotCompact {
             quantity: Quantity::Count,
         });
     }
     let judged = judge_points(whole, start, stored, count);
-    if let Judgement::Refused(refusal) = judged {
-        return Judgement::Refused(refusals::in_compact(refusal));
+    if let Err(refusal) = judged {
+        return Err(refusals::in_compact(refusal));
     }
     if extended {
-        return Judgement::Refused(Refusal::NotCompact {
+        return Err(Refusal::NotCompact {
             quantity: Quantity::ExtendedData,
         });
     }
-    Judgement::Passed
+    Ok(())
 }
 
 // The byte of a number in a body. A number that one byte doesn't hold, which `judge_points` tells, has a zero.
@@ -110,8 +101,8 @@ fn byte_of(channel: usize, value: i32) -> u8
     ensures { result ∷ [] ≡ sample_bytes 1 channel value }
 {
     match values::stored_sample(Format::Compact, channel, value) {
-        Stored::Number(number) => (number % 256) as u8,
-        Stored::Outside => 0,
+        Some(number) => (number % 256) as u8,
+        None => 0,
     }
 }
 
@@ -121,14 +112,11 @@ fn put_places(out: &mut [u8], start: usize, places: [Place; 16]) -> usize
     ensures { Laid out.old start (bytes_in 0 places) out.new result }
 {
     let mut at = start;
-    let mut channel: usize = 0;
-    while channel < 16 {
-        let place = places[channel];
-        if let Place::Number(value) = place {
+    for (channel, place) in places.iter().enumerate() {
+        if let Place::Number(value) = *place {
             out[at] = byte_of(channel, value);
             at += 1;
         }
-        channel += 1;
     }
     at
 }
@@ -141,46 +129,45 @@ fn put_points(whole: &[u8], start: usize, stored: [bool; 16], count: usize, out:
     let width = points::width(Format::Full, stored);
     let mut at = start;
     let mut to: usize = 0;
-    let mut i: usize = 0;
-    while i < count {
+    for _ in 0..count {
         let places = point_places::places(whole, at, Format::Full, stored, stored);
         to = put_places(out, to, places);
         at += width;
-        i += 1;
     }
 }
 
-// What became of a record that was to be turned: how many bytes the template has and how many the body; or the refusal of the first stage that it fails.
+// What a record was turned into: how many bytes the template has, and how many the body.
 #[derive(Clone, Copy)]
-pub enum Turned {
-    Both { template: usize, body: usize },
-    Refused(Refusal),
+pub struct Turned {
+    pub template: usize,
+    pub body: usize,
 }
 
 // The stages behind the description's, from the bytes of the template, and the room of both; only then is a byte put.
-fn turn_described(whole: &[u8], described: &[u8], template: &mut [u8], body: &mut [u8]) -> Turned
+fn turn_described(
+    whole: &[u8],
+    described: &[u8],
+    template: &mut [u8],
+    body: &mut [u8],
+) -> Result<Turned, Refusal>
     requires { (r : Record) × (run full_record whole.now ≡ ok r (length whole.now)) }
     ensures { (r : Record) → run full_record whole.now ≡ ok r (length whole.now) → turning result template.new body.new ≡ put_both described.now (body_bytes r) template.old body.old (judged_body r) }
 {
-    let heading = record_fronts::front_at(whole, 0);
-    let front = heading.front;
+    let front = record_fronts::front_at(whole, 0).unwrap();
     let stored = front.stored;
     let count = front.count as usize;
-    let judged = judge_body(whole, front.points, stored, count, front.announced);
-    if let Judgement::Refused(refusal) = judged {
-        return Turned::Refused(refusal);
-    }
+    judge_body(whole, front.points, stored, count, front.announced)?;
     let size = described.len();
     let length = count * points::width(Format::Compact, stored);
     if (template.len() < size) | (body.len() < length) {
-        return Turned::Refused(Refusal::Room);
+        return Err(Refusal::Room);
     }
     formats::put(template, 0, described);
     put_points(whole, front.points, stored, count, body);
-    Turned::Both {
+    Ok(Turned {
         template: size,
         body: length,
-    }
+    })
 }
 
 // A record that is the whole slice. The template is put aside first, which judges its numbers.
@@ -189,33 +176,28 @@ fn turn_whole(
     description: Description,
     template: &mut [u8],
     body: &mut [u8],
-) -> Turned
+) -> Result<Turned, Refusal>
     requires { (r : Record) × (run full_record whole.now ≡ ok r (length whole.now)) × (description ≡ r.description) }
     ensures { (r : Record) → run full_record whole.now ≡ ok r (length whole.now) → description ≡ r.description → turning result template.new body.new ≡ turned r template.old body.old }
 {
     let mut room: [u8; 118] = [0; 118]; // two heads of two bytes, two inclusion bytes, and seven for each of sixteen channels
     let compact = compact(description);
     match template_writing::write(true, compact, false, 0, &mut room) {
-        template_writing::Written::Done(end) => {
+        Ok(end) => {
             let described = &room[0..end];
             turn_described(whole, described, template, body)
         }
-        template_writing::Written::Refused(refusal) => {
-            Turned::Refused(refusals::in_compact(refusal))
-        }
+        Err(refusal) => Err(refusals::in_compact(refusal)),
     }
 }
 
 // A full record, which is the whole slice, is made a template and a body, each at the start of an output of its own.
 // On a refusal neither output changes; on success only their first bytes do.
-pub fn turn(whole: &[u8], template: &mut [u8], body: &mut [u8]) -> Turned
+pub fn turn(whole: &[u8], template: &mut [u8], body: &mut [u8]) -> Result<Turned, Refusal>
     ensures { turning result template.new body.new ≡ turn_of (length whole.now) (run full_record whole.now) template.old body.old }
 {
     let judged = record_reading::judge_whole(whole);
-    let verdict = judged.verdict;
-    if let Verdict::Refused(refusal) = verdict {
-        return Turned::Refused(refusal);
-    }
+    judged.verdict?;
     let description = judged.description;
     turn_whole(whole, description, template, body)
 }

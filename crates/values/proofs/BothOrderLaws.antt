@@ -1,5 +1,5 @@
 -- The same values are judged the same in both orders: they are met in point order in either, so the first that does not fit is one number, by its two indices.
-use Rattle.std.specs.Prelude.{◌≡◌, Bool, eqb, ℤ, pos, length, get_or}
+use Rattle.std.specs.Prelude.{◌≡◌, Bool, eqb, ℤ, pos, length, get_or, Result, Ok, Err, ⊤}
 use Rattle.std.proofs.Math.Path.{refl}
 use Rattle.std.proofs.Math.Logic.{inl, inr}
 use Rattle.std.proofs.Math.Bool.{true, false}
@@ -13,8 +13,6 @@ use Rattle.refusals.proofs.RangeLaws.{joined}
 use Rattle.refusals.specs.declared.Quantity.TheVariants.{Value}
 use Rattle.refusals.specs.declared.Refusal.{Refusal}
 use Rattle.refusals.specs.declared.Refusal.TheVariants.{OutOfRange, Amount}
-use Rattle.refusals.specs.declared.Judgement.{Judgement}
-use Rattle.refusals.specs.declared.Judgement.TheVariants.{Passed, Refused}
 use Rattle.points.specs.Points.{channels, fits_sample}
 use Rattle.orders.specs.Orders.{size, step, stride, index, Same}
 use Rattle.orders.specs.declared.Order.TheVariants.{Point, Column}
@@ -25,16 +23,16 @@ module _ (count k : ℕ) where
   -- ---- Stages
 
   -- one stage behind the other, and a stage that knows of no order
-  pub same-behind : (a b c d : Judgement) → SameJudgement count k a b → SameJudgement count k c d → SameJudgement count k (or_else a c) (or_else b d)
+  pub same-behind : (a b c d : Result ⊤ Refusal) → SameJudgement count k a b → SameJudgement count k c d → SameJudgement count k (or_else a c) (or_else b d)
   unfolding or_else
-  same-behind Passed Passed c d h g = g
-  same-behind Passed (Refused y) c d h g = absurd h
-  same-behind (Refused x) Passed c d h g = absurd h
-  same-behind (Refused x) (Refused y) c d h g = h
+  same-behind (Ok _) (Ok _) c d h g = g
+  same-behind (Ok _) (Err y) c d h g = absurd h
+  same-behind (Err x) (Ok _) c d h g = absurd h
+  same-behind (Err x) (Err y) c d h g = h
 
-  pub same-stage : (j : Judgement) → ((refusal : Refusal) → j ≡ Refused refusal → NamesNoValue refusal) → SameJudgement count k j j
-  same-stage Passed h = tt
-  same-stage (Refused refusal) h = inl (refl, h refusal refl)
+  pub same-stage : (j : Result ⊤ Refusal) → ((refusal : Refusal) → j ≡ Err refusal → NamesNoValue refusal) → SameJudgement count k j j
+  same-stage (Ok _) h = tt
+  same-stage (Err refusal) h = inl (refl, h refusal refl)
 
   pub same_test : (t : Bool) (refusal : Refusal) → NamesNoValue refusal → SameJudgement count k (require t refusal) (require t refusal)
   unfolding require

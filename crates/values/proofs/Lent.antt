@@ -1,4 +1,5 @@
 -- What is left to judge and to put of a point, and of many points, when some of it is done; and that their numbers are among the values.
+use Rattle.std.specs.Prelude.{Result, Ok, Err, Some, None, ⊤}
 use mathlib.Core.Path.{◌≡◌, refl, sym, ap₂, ◌∙◌}
 use mathlib.Core.Bool.{Bool, true, false, cond, ◌&&◌}
 use mathlib.Core.List.{List, [], ◌∷◌, ◌++◌, flat_map}
@@ -19,12 +20,9 @@ use Rattle.refusals.specs.Ranges.{first_misfit}
 use Rattle.refusals.proofs.RangeLaws.{joined}
 use Rattle.refusals.specs.declared.Quantity.TheVariants.{Value}
 use Rattle.refusals.specs.declared.Refusal.TheVariants.{OutOfRange, Amount}
-use Rattle.refusals.specs.declared.Judgement.{Judgement}
-use Rattle.refusals.specs.declared.Judgement.TheVariants.{Passed, Refused}
 use Rattle.channels.specs.Channel.{S, signed_of}
 use Rattle.channels.specs.Stored.{fits, stored_of, stored_if}
 use Rattle.tip_switch.specs.Switch.{is_state, byte_of, byte_if}
-use Rattle.channels.specs.declared.Stored.TheVariants.{Number, Outside}
 use Rattle.points.specs.Points.{stored_from, channels, fits_sample, width}
 use Rattle.orders.specs.Orders.{size, step, stride, numbers_from, points_from, points_of}
 use Rattle.orders.proofs.OrderLaws.{index-within, step-within}
@@ -36,6 +34,7 @@ use Rattle.values.specs.Parts.{Inside, point_bytes, points_bytes, bytes_left}
 use Rattle.orders.specs.declared.Order.{Order}
 use Rattle.orders.specs.declared.Order.TheVariants.{Point, Column}
 use Rattle.points.proofs.Samples.{stored-in, stored-out, stored-none}
+use Rattle.refusals.specs.declared.Refusal.{Refusal}
 
 -- ---- One number
 
@@ -49,21 +48,21 @@ module _ (w channel : ℕ) (v : ℤ) where
   stored_other e = rw (ne_eqb channel S e)
 
   -- what is stored says whether it fits
-  pub fits-number : {n : ℕ} → stored_sample w channel v ≡ Number n → fits_sample w channel v ≡ true
+  pub fits-number : {n : ℕ} → stored_sample w channel v ≡ Some n → fits_sample w channel v ≡ true
   unfolding stored_sample fits_sample byte_if stored_if
   fits-number {n} e = go (eqb channel S) (is_state v) (fits w (signed_of channel) v) e
     where
-      go : (t a b : Bool) → cond t (cond a (Number (byte_of v)) Outside) (cond b (Number (stored_of w (signed_of channel) v)) Outside) ≡ Number n → cond t a b ≡ true
+      go : (t a b : Bool) → cond t (cond a (Some (byte_of v)) None) (cond b (Some (stored_of w (signed_of channel) v)) None) ≡ Some n → cond t a b ≡ true
       go true true b q = refl
       go true false b q = impossible (cc)
       go false a true q = refl
       go false a false q = impossible (cc)
 
-  pub fits-outside : stored_sample w channel v ≡ Outside → fits_sample w channel v ≡ false
+  pub fits-outside : stored_sample w channel v ≡ None → fits_sample w channel v ≡ false
   unfolding stored_sample fits_sample byte_if stored_if
   fits-outside e = go (eqb channel S) (is_state v) (fits w (signed_of channel) v) e
     where
-      go : (t a b : Bool) → cond t (cond a (Number (byte_of v)) Outside) (cond b (Number (stored_of w (signed_of channel) v)) Outside) ≡ Outside → cond t a b ≡ false
+      go : (t a b : Bool) → cond t (cond a (Some (byte_of v)) None) (cond b (Some (stored_of w (signed_of channel) v)) None) ≡ None → cond t a b ≡ false
       go true true b q = impossible (cc)
       go true false b q = refl
       go false a true q = impossible (cc)
@@ -119,7 +118,7 @@ module _ (values : List ℤ) (d : ℕ) (stored : List Bool) (i at : ℕ) (h : i 
 
 module _ (w d : ℕ) (stored : List Bool) (values : List ℤ) where
   -- how they are judged
-  unfoldable pub judge_left : ℕ → ℕ → Judgement
+  unfoldable pub judge_left : ℕ → ℕ → Result ⊤ Refusal
   judge_left i at = first_misfit (samples_in w d (stored_from i (drop i stored)) values at)
 
   -- a channel that isn't stored is passed
@@ -142,7 +141,7 @@ module _ (w d : ℕ) (stored : List Bool) (values : List ℤ) where
     unfolding bytes_left point_bytes encode_each numbers_from
     take-bytes = rw (stored-in stored i h e)
 
-  pub judged-none : (i at : ℕ) → length stored ≤ i → judge_left i at ≡ Passed
+  pub judged-none : (i at : ℕ) → length stored ≤ i → judge_left i at ≡ Ok tt
   unfolding judge_left samples_in first_misfit
   judged-none i at h = rw (stored-none stored i h)
 
@@ -184,7 +183,7 @@ module _ (w d : ℕ) (l : List ℕ) (values : List ℤ) (p n i from : ℕ) (h : 
   over : n - i ≡ 0
   over = omega arith
 
-  pub last-judged : first_misfit (samples_from w d l values p (n - i) from) ≡ Passed
+  pub last-judged : first_misfit (samples_from w d l values p (n - i) from) ≡ Ok tt
   unfolding samples_from first_misfit
   last-judged = rw over
 
@@ -198,7 +197,7 @@ no-numbers : (l : List ℕ) → length l ≡ 0 → l ≡ []
 no-numbers [] e = refl
 no-numbers (channel ∷ l) e = absurd (omega arith)
 
-nothing-judged : (w d : ℕ) (values : List ℤ) (p n from : ℕ) → first_misfit (samples_from w d [] values p n from) ≡ Passed
+nothing-judged : (w d : ℕ) (values : List ℤ) (p n from : ℕ) → first_misfit (samples_from w d [] values p n from) ≡ Ok tt
 unfolding samples_from samples_in first_misfit
 nothing-judged w d values p zero from = refl
 nothing-judged w d values p (suc n) from = nothing-judged w d values p n (from + p)
@@ -212,10 +211,10 @@ module _ (w : ℕ) (stored : List Bool) (order : Order) (count : ℕ) (values : 
   abbrev amount : Bool
   amount = eqb (length values) (count * size stored)
 
-  abbrev judgement : Judgement
+  abbrev judgement : Result ⊤ Refusal
   judgement = judgement_of w stored order count values
 
-  pub other-amount : amount ≡ false → judgement ≡ Refused Amount
+  pub other-amount : amount ≡ false → judgement ≡ Err Amount
   unfolding judgement_of or_else require
   other-amount e = rw e
 
@@ -223,7 +222,7 @@ module _ (w : ℕ) (stored : List Bool) (order : Order) (count : ℕ) (values : 
   unfolding judgement_of samples or_else require
   same-amount e = rw e
 
-  pub no-values : amount ≡ true → size stored ≡ 0 → judgement ≡ Passed
+  pub no-values : amount ≡ true → size stored ≡ 0 → judgement ≡ Ok tt
   no-values e q = same-amount e ∙ rw (no-numbers (channels stored) q) (nothing-judged w (stride order count) values (step order 0) count 0)
 
   module _ (out : List ℕ) (at : ℕ) where

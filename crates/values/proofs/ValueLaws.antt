@@ -1,5 +1,5 @@
 -- Values in either order: those that fit are valid points and are put as their encoding, the first that does not fit is named, and both orders are said and put the same.
-use Rattle.std.specs.Prelude.{◌≡◌, ◌↔◌, Bool, ◌&&◌, eqb, leb, ℤ, pos, length, get_or}
+use Rattle.std.specs.Prelude.{◌≡◌, ◌↔◌, Bool, ◌&&◌, eqb, leb, ℤ, pos, length, get_or, Ok, Err}
 use Rattle.std.proofs.Math.Path.{refl, ap, ap₂}
 use Rattle.std.proofs.Common.{sym, ◌∙◌}
 use Rattle.std.proofs.Math.Bool.{true, false, cond}
@@ -22,7 +22,6 @@ use Rattle.refusals.proofs.RangeLaws.{joined, named-first, first-named, of-first
 use Rattle.refusals.specs.declared.Quantity.{Quantity}
 use Rattle.refusals.specs.declared.Quantity.TheVariants.{Value}
 use Rattle.refusals.specs.declared.Refusal.TheVariants.{OutOfRange, Amount}
-use Rattle.refusals.specs.declared.Judgement.TheVariants.{Passed, Refused}
 use Rattle.channels.specs.Channel.{S, signed_of}
 use Rattle.channels.specs.Stored.{stored_of, fits, stored_if}
 use Rattle.tip_switch.specs.Switch.{byte_of, is_state, byte_if, state-byte}
@@ -78,38 +77,38 @@ module _ (w : ℕ) where
   Fitted l point = Each (λ channel v. T (fits_sample w channel v)) l point
 
   module _ (values : List ℤ) (d : ℕ) where
-    fitted-in : (l : List ℕ) (from : ℕ) → first_misfit (samples_in w d l values from) ≡ Passed → Fitted l (numbers_from values d (length l) from)
+    fitted-in : (l : List ℕ) (from : ℕ) → first_misfit (samples_in w d l values from) ≡ Ok tt → Fitted l (numbers_from values d (length l) from)
     unfolding samples_in first_misfit numbers_from
     fitted-in [] from e = tt
     fitted-in (channel ∷ l) from e =
         let x = or-else-passed _ _ e in
         (rw (require-passed _ _ x.0) tt, fitted-in l (from + d) x.1)
 
-    in-fitted : (l : List ℕ) (from : ℕ) → Fitted l (numbers_from values d (length l) from) → first_misfit (samples_in w d l values from) ≡ Passed
+    in-fitted : (l : List ℕ) (from : ℕ) → Fitted l (numbers_from values d (length l) from) → first_misfit (samples_in w d l values from) ≡ Ok tt
     unfolding samples_in first_misfit numbers_from or_else require
     in-fitted [] from h = refl
     in-fitted (channel ∷ l) from h = rw (is_true (fits_sample w channel (get_or values from (pos 0))) h.0) (in-fitted l (from + d) h.1)
 
     module _ (l : List ℕ) (p : ℕ) where
-      fitted-from : (n from : ℕ) → first_misfit (samples_from w d l values p n from) ≡ Passed → All (Fitted l) (points_from values d (length l) p n from)
+      fitted-from : (n from : ℕ) → first_misfit (samples_from w d l values p n from) ≡ Ok tt → All (Fitted l) (points_from values d (length l) p n from)
       unfolding samples_from points_from
       fitted-from zero from e = tt
       fitted-from (suc n) from e = let x = or-else-passed _ _ (sym (joined (samples_in w d l values from) (samples_from w d l values p n (from + p))) ∙ e) in (fitted-in l from x.0, fitted-from n (from + p) x.1)
 
-      from-fitted : (n from : ℕ) → All (Fitted l) (points_from values d (length l) p n from) → first_misfit (samples_from w d l values p n from) ≡ Passed
+      from-fitted : (n from : ℕ) → All (Fitted l) (points_from values d (length l) p n from) → first_misfit (samples_from w d l values p n from) ≡ Ok tt
       unfolding samples_from first_misfit points_from or_else
       from-fitted zero from h = refl
       from-fitted (suc n) from h = joined (samples_in w d l values from) (samples_from w d l values p n (from + p)) ∙ rw (in-fitted l from h.0) (from-fitted n (from + p) h.1)
 
 module _ (w : ℕ) (stored : List Bool) (order : Order) (count : ℕ) (values : List ℤ) where
   -- that they fit is that they are valid points
-  pub fits-valid : judgement_of w stored order count values ≡ Passed → (length values ≡ count * size stored) × All (ValidPoint w stored) (points_of order count (size stored) values)
+  pub fits-valid : judgement_of w stored order count values ≡ Ok tt → (length values ≡ count * size stored) × All (ValidPoint w stored) (points_of order count (size stored) values)
   unfolding judgement_of samples points_of ValidPoint
   fits-valid e =
       let x = or-else-passed _ _ e in
       (eqb-true (length values) (count * size stored) (require-passed _ _ x.0), fitted-from w values (stride order count) (channels stored) (step order (size stored)) count 0 x.1)
 
-  pub valid-fits : length values ≡ count * size stored → All (ValidPoint w stored) (points_of order count (size stored) values) → judgement_of w stored order count values ≡ Passed
+  pub valid-fits : length values ≡ count * size stored → All (ValidPoint w stored) (points_of order count (size stored) values) → judgement_of w stored order count values ≡ Ok tt
   unfolding judgement_of samples points_of ValidPoint or_else require
   valid-fits h g = rw (eq-eqb (length values) (count * size stored) h) (from-fitted w values (stride order count) (channels stored) (step order (size stored)) count 0 g)
 
@@ -138,7 +137,7 @@ module _ (w : ℕ) where
   valid-bytes stored (point ∷ points) h = ap₂ ◌++◌ (samples-encoded (channels stored) point h.0) (valid-bytes stored points h.1)
 
 -- so where they fit and there is room, their encoding is what is put
-module _ (w : ℕ) (stored : List Bool) (order : Order) (count : ℕ) (values : List ℤ) (fitting : judgement_of w stored order count values ≡ Passed) where
+module _ (w : ℕ) (stored : List Bool) (order : Order) (count : ℕ) (values : List ℤ) (fitting : judgement_of w stored order count values ≡ Ok tt) where
   abbrev points : List (List ℤ)
   points = points_of order count (size stored) values
 
@@ -172,7 +171,7 @@ valid-sizes w stored (p ∷ points) h = (each-size w (channels stored) p h.0, va
 
 -- so valid points fit, laid out in either order
 pub laid-fits : (w : ℕ) (stored : List Bool) (order : Order) (points : List (List ℤ)) → All (ValidPoint w stored) points
-    → judgement_of w stored order (length points) (values_of order (size stored) points) ≡ Passed
+    → judgement_of w stored order (length points) (values_of order (size stored) points) ≡ Ok tt
 laid-fits w stored order points h =
     let n = valid-sizes w stored points h in
     valid-fits w stored order (length points) (values_of order (size stored) points) (values-many (size stored) points n order) (rw (points-again (size stored) points n order) h)
@@ -230,14 +229,14 @@ module _ (w : ℕ) (stored : List Bool) (order : Order) (count : ℕ) (values : 
 
 -- it is named exactly where the amount is right and it is the first in point order
 pub misfit-exactly : (w : ℕ) (stored : List Bool) (order : Order) (count : ℕ) (values : List ℤ) (name : Quantity)
-    → (judgement_of w stored order count values ≡ Refused (OutOfRange name)) ↔ ((length values ≡ count * size stored) × FirstOutside (samples w stored order count values) name)
+    → (judgement_of w stored order count values ≡ Err (OutOfRange name)) ↔ ((length values ≡ count * size stored) × FirstOutside (samples w stored order count values) name)
 unfolding judgement_of or_else require
 misfit-exactly w stored order count values name = (
   λ e. go (eqb (length values) (count * size stored)) refl e,
   λ h. rw (eq-eqb (length values) (count * size stored) h.0) (first-named (samples w stored order count values) name h.1),
 )
   where
-    go : (t : Bool) → eqb (length values) (count * size stored) ≡ t → or_else (require t Amount) (first_misfit (samples w stored order count values)) ≡ Refused (OutOfRange name)
+    go : (t : Bool) → eqb (length values) (count * size stored) ≡ t → or_else (require t Amount) (first_misfit (samples w stored order count values)) ≡ Err (OutOfRange name)
         → (length values ≡ count * size stored) × FirstOutside (samples w stored order count values) name
     go true a e = (eqb-true (length values) (count * size stored) a, named-first (samples w stored order count values) name e)
     go false a e = impossible (cc)

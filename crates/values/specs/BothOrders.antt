@@ -1,10 +1,8 @@
 -- What is said of the same values in point order and by column is the same, but for the index that 12 names: what that means.
-use Rattle.std.specs.Prelude.{◌≡◌, ◌⊎◌, ℕ, ◌<◌}
+use Rattle.std.specs.Prelude.{◌≡◌, ◌⊎◌, ℕ, ◌<◌, Result, Ok, Err, ⊤}
 use Rattle.refusals.specs.declared.Quantity.TheVariants.{Value}
 use Rattle.refusals.specs.declared.Refusal.{Refusal}
 use Rattle.refusals.specs.declared.Refusal.TheVariants.{OutOfRange}
-use Rattle.refusals.specs.declared.Judgement.{Judgement}
-use Rattle.refusals.specs.declared.Judgement.TheVariants.{Passed, Refused}
 use Rattle.orders.specs.Orders.{index}
 use Rattle.orders.specs.declared.Order.TheVariants.{Point, Column}
 
@@ -35,8 +33,8 @@ module _ (count k : ℕ) where
   abbrev pub SameRefusal : (rows columns : Refusal) → Type 0
   SameRefusal rows columns = ((rows ≡ columns) × NamesNoValue rows) ⊎ OneValue rows columns
 
-  abbrev pub SameJudgement : (rows columns : Judgement) → Type 0
-  SameJudgement Passed Passed = Unit {0}
-  SameJudgement Passed (Refused refusal) = ⊥
-  SameJudgement (Refused refusal) Passed = ⊥
-  SameJudgement (Refused rows) (Refused columns) = SameRefusal rows columns
+  abbrev pub SameJudgement : (rows columns : Result ⊤ Refusal) → Type 0
+  SameJudgement (Ok _) (Ok _) = Unit {0}
+  SameJudgement (Ok _) (Err refusal) = ⊥
+  SameJudgement (Err refusal) (Ok _) = ⊥
+  SameJudgement (Err rows) (Err columns) = SameRefusal rows columns

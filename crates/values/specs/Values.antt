@@ -1,5 +1,5 @@
 -- The values of many points as a writer is lent them, in one of two orders: whether they fit, and what is put.
-use Rattle.std.specs.Prelude.{Bool, cond, ◌&&◌, ℕ, zero, suc, ◌+◌, ◌*◌, eqb, leb, ℤ, pos, length, get_or}
+use Rattle.std.specs.Prelude.{Bool, cond, ◌&&◌, ℕ, zero, suc, ◌+◌, ◌*◌, eqb, leb, ℤ, pos, length, get_or, Result, Option, Some, None, ⊤}
 use mathlib.Core.List.{List, [], ◌∷◌, ◌++◌, flat_map}
 use Rattle.formats.specs.Number.{digits}
 use Rattle.formats.specs.Put.{puts}
@@ -9,15 +9,13 @@ use Rattle.refusals.specs.Stages.{require, or_else}
 use Rattle.refusals.specs.Ranges.{Ranged, ◌fits_if◌, first_misfit}
 use Rattle.refusals.specs.declared.Quantity.TheVariants.{Value}
 use Rattle.refusals.specs.declared.Refusal.TheVariants.{Amount}
-use Rattle.refusals.specs.declared.Judgement.{Judgement}
 use Rattle.channels.specs.Channel.{S, signed_of}
 use Rattle.channels.specs.Stored.{stored_if}
 use Rattle.tip_switch.specs.Switch.{byte_if}
-use Rattle.channels.specs.declared.Stored.{Stored}
-use Rattle.channels.specs.declared.Stored.TheVariants.{Number, Outside}
 use Rattle.points.specs.Points.{channels, sample_size, width, fits_sample}
 use Rattle.orders.specs.Orders.{size, step, stride, points_of}
 use Rattle.orders.specs.declared.Order.{Order}
+use Rattle.refusals.specs.declared.Refusal.{Refusal}
 
 -- ---- Whether they fit: whichever the order they are lent in, they are judged in point order
 
@@ -35,18 +33,18 @@ unfoldable pub samples : (w : ℕ) → List Bool → Order → (count : ℕ) →
 samples w stored order count values = samples_from w (stride order count) (channels stored) values (step order (size stored)) count 0
 
 -- that their amount is another comes first; then the first that doesn't fit its channel is named
-unfoldable pub judgement_of : (w : ℕ) → List Bool → Order → (count : ℕ) → List ℤ → Judgement
+unfoldable pub judgement_of : (w : ℕ) → List Bool → Order → (count : ℕ) → List ℤ → Result ⊤ Refusal
 judgement_of w stored order count values = or_else (require (eqb (length values) (count * size stored)) Amount) (first_misfit (samples w stored order count values))
 
 -- ---- What is put
 
 -- what is stored for a number of a channel, if anything is; and then its bytes, which are zeros where nothing is
-unfoldable pub stored_sample : (w channel : ℕ) → ℤ → Stored
+unfoldable pub stored_sample : (w channel : ℕ) → ℤ → Option ℕ
 stored_sample w channel v = cond (eqb channel S) (byte_if v) (stored_if w (signed_of channel) v)
 
-abbrev pub number_in : Stored → ℕ
-number_in (Number n) = n
-number_in Outside = 0
+abbrev pub number_in : Option ℕ → ℕ
+number_in (Some n) = n
+number_in None = 0
 
 unfoldable pub sample_bytes : (w channel : ℕ) → ℤ → List ℕ
 sample_bytes w channel v = digits (sample_size w channel) (number_in (stored_sample w channel v))

@@ -12,12 +12,12 @@ ghost use Rattle.refusals.specs.Ranges.{first_misfit};
 ghost use Rattle.values.specs.Values.{samples_in, samples_from, judgement_of, stored_sample, number_in, sample_bytes, put_of};
 ghost use Rattle.values.specs.Parts.{Inside, point_bytes, points_bytes, bytes_left};
 
-use channels::{Format, Stored};
+use channels::Format;
 use orders::Order;
-use refusals::{Judgement, Quantity, Refusal};
+use refusals::{Quantity, Refusal};
 
 // What is stored for a number of a channel, if anything is.
-pub fn stored_sample(format: Format, channel: usize, value: i32) -> Stored
+pub fn stored_sample(format: Format, channel: usize, value: i32) -> Option<u16>
     ensures { result ≡ stored_sample (width_of format) channel value }
 {
     if channel == channels::S {
@@ -34,19 +34,18 @@ fn judge_point(
     stride: usize,
     format: Format,
     stored: &[bool; 16],
-) -> Judgement
+) -> Result<(), Refusal>
     requires { (length stored.now ≡ 16) × (stride ≤ length values.now + 1) × Inside values.now stride (size stored.now) from }
     ensures { result ≡ first_misfit (samples_in (width_of format) stride (channelsOf stored.now) values.now from) }
 {
     let mut index = from;
-    let mut channel: usize = 0;
-    while channel < 16 {
+    for channel in 0..16 {
         if stored[channel] {
             let value = values[index];
             match stored_sample(format, channel, value) {
-                Stored::Number(_) => {}
-                Stored::Outside => {
-                    return Judgement::Refused(Refusal::OutOfRange {
+                Some(_) => {}
+                None => {
+                    return Err(Refusal::OutOfRange {
                         quantity: Quantity::Value {
                             index: index,
                             channel: channel,
@@ -56,9 +55,8 @@ fn judge_point(
             }
             index += stride;
         }
-        channel += 1;
     }
-    Judgement::Passed
+    Ok(())
 }
 
 // The same of many points, a step apart, that have numbers.
@@ -69,21 +67,16 @@ fn judge_from(
     stride: usize,
     format: Format,
     stored: &[bool; 16],
-) -> Judgement
+) -> Result<(), Refusal>
     requires { (length stored.now ≡ 16) × (stride ≤ length values.now + 1) × (step ≤ 16) × (0 < size stored.now) × AllAt (Inside values.now stride (size stored.now)) step count 0 }
     ensures { result ≡ first_misfit (samples_from (width_of format) stride (channelsOf stored.now) values.now step count 0) }
 {
     let mut from: usize = 0;
-    let mut i: usize = 0;
-    while i < count {
-        let judged = judge_point(values, from, stride, format, stored);
-        if let Judgement::Refused(_) = judged {
-            return judged;
-        }
+    for _ in 0..count {
+        judge_point(values, from, stride, format, stored)?;
         from += step;
-        i += 1;
     }
-    Judgement::Passed
+    Ok(())
 }
 
 // Whether the values of some points fit: their amount first (refusal 13), then each in point order, whatever the order that they are lent in.
@@ -93,15 +86,15 @@ pub fn judge(
     format: Format,
     stored: [bool; 16],
     order: Order,
-) -> Judgement
+) -> Result<(), Refusal>
     ensures { result ≡ judgement_of (width_of format) stored order count values.now }
 {
     let k = orders::size(stored);
     if !orders::is_amount(values.len(), count, k) {
-        return Judgement::Refused(Refusal::Amount);
+        return Err(Refusal::Amount);
     }
     if k == 0 {
-        return Judgement::Passed;
+        return Ok(());
     }
     let step = orders::step(order, k);
     let stride = orders::stride(order, count);
@@ -109,12 +102,12 @@ pub fn judge(
 }
 
 // The stored number, and 0 where there is none.
-fn number_in(stored: Stored) -> u16
+fn number_in(stored: Option<u16>) -> u16
     ensures { result ≡ number_in stored }
 {
     match stored {
-        Stored::Number(number) => number,
-        Stored::Outside => 0,
+        Some(number) => number,
+        None => 0,
     }
 }
 
@@ -165,14 +158,12 @@ fn put_run(
 {
     let mut at = start;
     let mut index = from;
-    let mut channel: usize = first;
-    while channel < last {
+    for channel in first..last {
         if stored[channel] {
             let value = values[index];
             at = put_sample(out, at, channel, value, format);
             index += stride;
         }
-        channel += 1;
     }
     Run {
         at: at,
@@ -246,11 +237,9 @@ fn put_from(
 {
     let mut at = start;
     let mut from: usize = 0;
-    let mut i: usize = 0;
-    while i < count {
+    for _ in 0..count {
         at = put_point(out, at, values, from, stride, format, stored);
         from += step;
-        i += 1;
     }
     at
 }

@@ -1,6 +1,6 @@
 -- A walk over a file of joined records gives its cut into records, and there is only one.
 -- The statements speak of `IsRecord`, which is about what is written; `Gives` says what it is for a walk to give a cut.
-use Rattle.std.specs.Prelude.{◌≡◌, length, get_or}
+use Rattle.std.specs.Prelude.{◌≡◌, length, get_or, None}
 use Rattle.std.proofs.Math.Path.{refl, ap}
 use Rattle.std.proofs.Common.{sym, ◌∙◌, arith, take_all}
 use mathlib.Core.List.{List, [], flatten}
@@ -13,7 +13,6 @@ use Rattle.records.specs.Record.{IsRecord}
 use Rattle.records.specs.Demands.{one_way}
 use Rattle.walks.specs.Walk.{step_of, place_after, step_of_walk, moved, walker_after, start_of, record_of, Gives}
 use Rattle.walks.specs.StepLaws.{all-at, from_start, next_start, step-record, step_end, end-there, Covered, covers}
-use Rattle.walks.specs.declared.Found.TheVariants as found
 use Rattle.walks.specs.declared.Step.{Step}
 use Rattle.walks.specs.declared.Walker.{Walker}
 
@@ -46,7 +45,7 @@ module _ (file : List ℕ) (bytes : Bytes file) where
   covered zero = record { within = omega arith; cut = []; records = tt; joined = refl }
   covered (suc k) = covers file bytes (place_after file k) (covered k)
 
-  pub end-has-cut : (k : ℕ) → (step_of_walk file k).found ≡ found.End
+  pub end-has-cut : (k : ℕ) → (step_of_walk file k).found ≡ None
       → (bs : List (List ℕ)) × All IsRecord bs × (flatten bs ≡ file) × Gives file bs × ((cs : List (List ℕ)) → All IsRecord cs → flatten cs ≡ file → cs ≡ bs)
   end-has-cut k e =
       let p = covered k in

@@ -1,5 +1,5 @@
 -- Laws of steps: over a record, at the end, and what a step that answers a record or the end says of the file.
-use Rattle.std.specs.Prelude.{◌≡◌, Bool, cond, ℕ, zero, suc, ◌+◌, ◌-◌, ◌≤◌, ◌<◌, ltb, drop, get_or}
+use Rattle.std.specs.Prelude.{◌≡◌, Bool, cond, ℕ, zero, suc, ◌+◌, ◌-◌, ◌≤◌, ◌<◌, ltb, drop, get_or, Ok, Err, Some, None, Result}
 use Rattle.std.proofs.Math.Path.{refl, ap}
 use Rattle.std.proofs.Common.{sym, ◌∙◌, arith, take-append-drop, take-suc, drop-cons, take-add, lt-ltb, le-ltb, ltb-true, ltb-false}
 use Rattle.std.proofs.Math.Bool.{true, false}
@@ -15,11 +15,10 @@ use Rattle.refusals.specs.Table.{refusal_of}
 use Rattle.records.specs.Record.{Record, full_record, IsRecord, present}
 use Rattle.records.specs.Demands.{wants, read-after-write, write-after-read}
 use Rattle.record_reading.specs.Verdict.{verdict_from}
-use Rattle.record_reading.specs.declared.Verdict.{Verdict}
-use Rattle.record_reading.specs.declared.Verdict.TheVariants as verdict
+use Rattle.record_reading.specs.declared.Extent.{Extent}
 use Rattle.walks.specs.Walk.{stays, stepped, step_of, record_of, start_of}
-use Rattle.walks.specs.declared.Found.TheVariants as found
 use Rattle.walks.specs.declared.Step.{Step}
+use Rattle.refusals.specs.declared.Refusal.{Refusal}
 
 -- ---- Joined lists
 
@@ -68,16 +67,16 @@ unfoldable stepped-read : (place : ℕ) → Answer Record → Step
 stepped-read place x = stepped place (verdict_from place (after place x))
 
 -- over a record it leads behind it
-over : (place : ℕ) (r : Record) (n : ℕ) → stepped-read place (ok r n) ≡ record { found = found.Record n (length r.points) (present r.extended); next = place + n }
+over : (place : ℕ) (r : Record) (n : ℕ) → stepped-read place (ok r n) ≡ record { found = Some (Ok (record { length = n; count = length r.points; extended = present r.extended })); next = place + n }
 unfolding stepped-read stepped verdict_from after
 over place r n = let z : place + n - place ≡ n = omega arith in rw z
 
 -- and over no record it stays
-stood-short : (place : ℕ) → stepped-read place short ≡ stays (found.Refused (refusal_of Short)) place
+stood-short : (place : ℕ) → stepped-read place short ≡ stays (Some (Err (refusal_of Short))) place
 unfolding stepped-read stepped verdict_from after
 stood-short place = refl
 
-stood-bad : (place k p : ℕ) → stepped-read place (bad k p) ≡ stays (found.Refused (refusal_of (Bad k (place + p)))) place
+stood-bad : (place k p : ℕ) → stepped-read place (bad k p) ≡ stays (Some (Err (refusal_of (Bad k (place + p))))) place
 unfolding stepped-read stepped verdict_from after
 stood-bad place k p = refl
 
@@ -88,34 +87,34 @@ step-record file place {b} t x e =
     rw (lt-ltb place (length file) (omega (arith, some_bytes (b ++ t) x.value (length b) (read-joined t x), length-drop place file, length-append b t, n)), e, read-joined t x)
     (over place x.value (length b))
 
-pub step_end : (file : List ℕ) (place : ℕ) → length file ≤ place → step_of file place ≡ stays found.End place
+pub step_end : (file : List ℕ) (place : ℕ) → length file ≤ place → step_of file place ≡ stays None place
 unfolding step_of
 step_end file place h = rw (le-ltb place (length file) h)
 
 -- ---- What a step says of the file
 
-never : (place : ℕ) (v : Verdict) → (stepped place v).found ≡ found.End → ⊥
+never : (place : ℕ) (v : Result Extent Refusal) → (stepped place v).found ≡ None → ⊥
 unfolding stepped
-never place (verdict.Record n k t) e = impossible (cc)
-never place (verdict.Refused refusal) e = impossible (cc)
+never place (Ok extent) e = impossible (cc)
+never place (Err refusal) e = impossible (cc)
 
 -- nothing but the end is answered by "end"
-pub end-there : (file : List ℕ) (place : ℕ) → (step_of file place).found ≡ found.End → length file ≤ place
+pub end-there : (file : List ℕ) (place : ℕ) → (step_of file place).found ≡ None → length file ≤ place
 unfolding step_of
 end-there file place e = go (ltb place (length file)) refl (verdict_from place (read_at full_record file place)) e
   where
-    go : (t : Bool) → ltb place (length file) ≡ t → (v : Verdict) → (cond t (stepped place v) (stays found.End place)).found ≡ found.End → length file ≤ place
+    go : (t : Bool) → ltb place (length file) ≡ t → (v : Result Extent Refusal) → (cond t (stepped place v) (stays None place)).found ≡ None → length file ≤ place
     go true h v q = absurd (never place v q)
     go false h v q = ltb-false place (length file) h
 
-moves : (file : List ℕ) (place : ℕ) {n k : ℕ} {t : Bool} → (step_of file place).found ≡ found.Record n k t
+moves : (file : List ℕ) (place : ℕ) {n k : ℕ} {t : Bool} → (step_of file place).found ≡ Some (Ok (record { length = n; count = k; extended = t }))
     → (place < (step_of file place).next) × ((step_of file place).next ≤ length file)
 unfolding step_of read_at stepped-read
 moves file place {n} {k} {t} e = go (ltb place (length file)) refl (run full_record (drop place file)) refl e
   where
     go : (b : Bool) → ltb place (length file) ≡ b → (x : Answer Record) → run full_record (drop place file) ≡ x
-        → (cond b (stepped-read place x) (stays found.End place)).found ≡ found.Record n k t
-        → (place < (cond b (stepped-read place x) (stays found.End place)).next) × ((cond b (stepped-read place x) (stays found.End place)).next ≤ length file)
+        → (cond b (stepped-read place x) (stays None place)).found ≡ Some (Ok (record { length = n; count = k; extended = t }))
+        → (place < (cond b (stepped-read place x) (stays None place)).next) × ((cond b (stepped-read place x) (stays None place)).next ≤ length file)
     go true h (ok r m) g q =
         let z = ap (λ (y : Step). y.next) (over place r m) in
         (omega (arith, z, some_bytes (drop place file) r m g), omega (arith, z, ltb-true, (whole full_record (drop place file) g).within, length-drop place file))
@@ -124,7 +123,7 @@ moves file place {n} {k} {t} e = go (ltb place (length file)) refl (run full_rec
     go false h x g q = impossible (cc)
 
 -- a step over a record leads on, and not beyond the file
-pub step-on : (file : List ℕ) (place : ℕ) (r : Step) → r ≡ step_of file place → {n k : ℕ} {t : Bool} → r.found ≡ found.Record n k t → (place < r.next) × (r.next ≤ length file)
+pub step-on : (file : List ℕ) (place : ℕ) (r : Step) → r ≡ step_of file place → {n k : ℕ} {t : Bool} → r.found ≡ Some (Ok (record { length = n; count = k; extended = t })) → (place < r.next) × (r.next ≤ length file)
 step-on file place r e g = rw e (moves file place (ap (λ (x : Step). x.found) (sym e) ∙ g))
 
 -- the bytes before a place are whole records
@@ -153,7 +152,7 @@ module _ (file : List ℕ) (bytes : Bytes file) (place : ℕ) (p : Covered file 
   unfolding step_of read_at stepped-read
   covers = go (ltb place (length file)) (run full_record (drop place file)) refl
     where
-      go : (t : Bool) (x : Answer Record) → run full_record (drop place file) ≡ x → Covered file (cond t (stepped-read place x) (stays found.End place)).next
+      go : (t : Bool) (x : Answer Record) → run full_record (drop place file) ≡ x → Covered file (cond t (stepped-read place x) (stays None place)).next
       go true (ok r n) e = rw (over place r n) (one_more r n e)
       go true short e = rw (stood-short place) p
       go true (bad k q) e = rw (stood-bad place k q) p

@@ -4,30 +4,19 @@
 ghost use Rattle.std.specs.Prelude.{◌≡◌};
 ghost use Rattle.walks.specs.Walk.{stays, step_of, at_start, moved};
 
-use record_reading::Verdict;
+use record_reading::Extent;
 use refusals::Refusal;
 
-// What stands at a place of a file. A refusal's place counts from the file's start.
-#[derive(Clone, Copy)]
-pub enum Found {
-    Record {
-        length: usize,
-        count: u32,
-        extended: bool,
-    },
-    End,
-    Refused(Refusal),
-}
-
-// What stands at a place, and the place afterwards: behind a record, or where it was.
+// What stands at a place of a file, a record or a refusal, or nothing at its end; and the place afterwards: behind a record, or where it was.
+// A refusal's place counts from the file's start.
 #[derive(Clone, Copy)]
 pub struct Step {
-    pub found: Found,
+    pub found: Option<Result<Extent, Refusal>>,
     pub next: usize,
 }
 
 // A step that is not a record leaves the place as it was.
-fn stay(found: Found, place: usize) -> Step
+fn stay(found: Option<Result<Extent, Refusal>>, place: usize) -> Step
     ensures { result ≡ stays found place }
 {
     Step {
@@ -41,26 +30,15 @@ pub fn step_at(file: &[u8], place: usize) -> Step
     ensures { result ≡ step_of file.now place }
 {
     if file.len() <= place {
-        return stay(Found::End, place);
+        return stay(None, place);
     }
     let verdict = record_reading::verdict_at(file, place);
     match verdict {
-        Verdict::Record {
-            length,
-            count,
-            extended,
-        } => {
-            let next = place + length;
-            Step {
-                found: Found::Record {
-                    length: length,
-                    count: count,
-                    extended: extended,
-                },
-                next: next,
-            }
-        }
-        Verdict::Refused(refusal) => stay(Found::Refused(refusal), place),
+        Ok(extent) => Step {
+            found: Some(verdict),
+            next: place + extent.length,
+        },
+        Err(_) => stay(Some(verdict), place),
     }
 }
 

@@ -1,5 +1,5 @@
 -- Names: the words that a mark parts, counted from 0.
-use Rattle.std.specs.Prelude.{◌≡◌, ◌⊎◌, List, ℕ, suc, ◌≤◌, ◌-◌, take, drop}
+use Rattle.std.specs.Prelude.{◌≡◌, List, ℕ, suc, ◌≤◌, ◌<◌, ◌-◌, take, drop}
 use Rattle.words.specs.Places.{Word}
 
 -- what stands between two places
@@ -18,9 +18,24 @@ pub record Nth (names : List ℕ) (mark number : ℕ) (word : List ℕ) : Type 0
   pub stands : At names mark 0 number from to
   pub bytes : word ≡ between names from to
 
--- a word is the name of a number, or there is no name of that number
+-- a word is the name of a number
 pub record Named (names : List ℕ) (mark : ℕ) (word : List ℕ) (number : ℕ) : Type 0 where
   pub from : ℕ
   pub to : ℕ
   pub stands : At names mark 0 number from to
-  pub same : (word ≡ between names from to) ⊎ (to ≤ from)
+  pub same : word ≡ between names from to
+
+-- a word is none of the names: of a number on there is no name, and no name before it is the word
+pub record Unnamed (names : List ℕ) (mark : ℕ) (word : List ℕ) : Type 0 where
+  pub count : ℕ
+  pub from : ℕ
+  pub to : ℕ
+  pub stands : At names mark 0 count from to
+  pub none : to ≤ from
+  pub others : (number start end : ℕ) → number < count → At names mark 0 number start end → word ≡ between names start end → ⊥
+
+-- a word is the first of a line from a place on, where spaces part words, and another place is the one behind it
+pub record Stands (line : List ℕ) (at : ℕ) (word : List ℕ) (behind : ℕ) : Type 0 where
+  pub from : ℕ
+  pub place : Word line 32 at from behind
+  pub bytes : word ≡ between line from behind

@@ -1,46 +1,56 @@
-// Words of a line: where they stand, how they begin, which of some names they are.
+// Words of a line: where they stand, how they begin, which of some names they are; and why one could not be read.
 #![tactic(auto)]
 
-ghost use Rattle.std.specs.Prelude.{◌≡◌, ◌-◌, take, drop};
+ghost use Rattle.std.specs.Prelude.{◌≡◌, ◌-◌, take, drop, MatchOption};
 ghost use Rattle.words.specs.Places.{Sought, Skipped, Word};
 ghost use Rattle.words.specs.Said.{begins_with, says_not, without_not, reason_of};
-ghost use Rattle.words.specs.Names.{Named, Nth};
+ghost use Rattle.words.specs.Names.{Named, Unnamed, Nth, Stands};
 
-// Why a word could not be read; it could, where there is no reason.
-pub const NO_REASON: usize = 0;
+// Why a word of a line could not be read.
+#[derive(Clone, Copy, Debug, PartialEq, Eq)]
+pub enum Reason {
+    Missing,
+    NotANumber,
+    NotBytes,
+    NotAChannel,
+    NotAPlace,
+    TooMany,
+    NoSuchQuestion,
+    TooLong,
+}
 
-pub const MISSING: usize = 1;
-
-pub const NOT_A_NUMBER: usize = 2;
-
-pub const NOT_BYTES: usize = 3;
+impl Reason {
+    // Why a word could not be read: it is missing, or it is not what was wanted.
+    pub fn of(word: &[u8], otherwise: Reason) -> Reason
+        ensures { result ≡ reason_of word.now otherwise }
+    {
+        if word.is_empty() {
+            return Reason::Missing;
+        }
+        otherwise
+    }
+}
 
 // The first place, from a place on, that holds the mark; or the end.
 pub fn seek(text: &[u8], from: usize, mark: u8) -> usize
     ensures { Sought text.now from mark result }
 {
-    let mut at = from;
-    while at < text.len() {
-        if text[at] == mark {
-            return at;
-        }
-        at += 1;
+    let rest = part(text, from, text.len());
+    match rest.iter().position(|byte| *byte == mark) {
+        Some(passed) => from + passed,
+        None => from.max(text.len()),
     }
-    at
 }
 
 // The first place, from a place on, that holds anything but the mark; or the end.
 pub fn skip(text: &[u8], from: usize, mark: u8) -> usize
     ensures { Skipped text.now from mark result }
 {
-    let mut place = from;
-    while place < text.len() {
-        if text[place] != mark {
-            return place;
-        }
-        place += 1;
+    let rest = part(text, from, text.len());
+    match rest.iter().position(|byte| *byte != mark) {
+        Some(marks) => from + marks,
+        None => from.max(text.len()),
     }
-    place
 }
 
 // Where a word stands: from its first byte up to the byte behind its last.
@@ -75,21 +85,57 @@ pub fn part<'a>(text: &'a [u8], from: usize, to: usize) -> &'a [u8]
     &text[from..to]
 }
 
-// Which of some names a word is, counted from 0, or how many they are where it is none of them.
-pub fn which(names: &[u8], mark: u8, word: &[u8]) -> usize
-    ensures { Named names.now mark word.now result }
+// What a line says at a place, and the place behind its word.
+#[derive(Clone, Copy)]
+pub struct Parsed<T> {
+    pub value: T,
+    pub behind: usize,
+}
+
+// The first word of a line from a place on, where spaces part words.
+pub fn word_at<'a>(line: &'a [u8], at: usize) -> Parsed<&'a [u8]>
+    ensures { Stands line.now at result.value.now result.behind }
 {
+    let span = next(line, b' ', at);
+    Parsed {
+        value: part(line, span.from, span.to),
+        behind: span.to,
+    }
+}
+
+// What a word of a line was read as, in the place of its bytes; or why it was not read.
+pub fn read_as<'a, T>(
+    word: Parsed<&'a [u8]>,
+    value: Option<T>,
+    otherwise: Reason,
+) -> Result<Parsed<T>, Reason>
+    ensures { MatchOption value (result ≡ Err (reason_of word.entry.value.now otherwise)) (λ v. result ≡ Ok (record { value = v; behind = word.entry.behind })) }
+{
+    match value {
+        Some(value) => Ok(Parsed {
+            value: value,
+            behind: word.behind,
+        }),
+        None => Err(Reason::of(word.value, otherwise)),
+    }
+}
+
+// Which of some names a word is, counted from 0.
+pub fn which(names: &[u8], mark: u8, word: &[u8]) -> Option<usize>
+    ensures { MatchOption result (Unnamed names.now mark word.now) (λ number. Named names.now mark word.now number) }
+{
+    // a turn leaps over a word and the marks before it: `split` would find a name without bytes between two marks
     let mut number: usize = 0;
     let mut at: usize = 0;
     while at < names.len() {
         let span = next(names, mark, at);
         if check::same(part(names, span.from, span.to), word) {
-            return number;
+            return Some(number);
         }
         at = span.to;
         number += 1;
     }
-    number
+    None
 }
 
 // The name of a number among some names, or nothing where there is none.
@@ -97,11 +143,9 @@ pub fn name<'a>(names: &'a [u8], mark: u8, number: usize) -> &'a [u8]
     ensures { Nth names.now mark number result.now }
 {
     let mut place: usize = 0;
-    let mut count: usize = 0;
-    while count < number {
+    for count in 0..number {
         let span = next(names, mark, place);
         place = span.to;
-        count += 1;
     }
     let span = next(names, mark, place);
     part(names, span.from, span.to)
@@ -111,10 +155,10 @@ pub fn name<'a>(names: &'a [u8], mark: u8, number: usize) -> &'a [u8]
 pub fn begins(word: &[u8], mark: u8) -> bool
     ensures { result ≡ begins_with word.now mark }
 {
-    if word.len() == 0 {
-        return false;
+    match word {
+        [first, ..] => *first == mark,
+        [] => false,
     }
-    word[0] == mark
 }
 
 // Whether a word begins with `!`, which says not.
@@ -132,17 +176,4 @@ pub fn without_not<'a>(word: &'a [u8]) -> &'a [u8]
         return part(word, 1, word.len());
     }
     word
-}
-
-// Why a word could not be read: it is missing, or it is not what was wanted.
-pub fn reason(good: bool, word: &[u8], otherwise: usize) -> usize
-    ensures { result ≡ reason_of good word.now otherwise }
-{
-    if good {
-        return NO_REASON;
-    }
-    if word.len() == 0 {
-        return MISSING;
-    }
-    otherwise
 }

@@ -1,63 +1,68 @@
 // The questions that write, a record and a template: each is read from its words, asked of the library, and answered.
 #![tactic(auto)]
 
-ghost use Rattle.std.specs.Prelude.{◌≤◌};
-
 use answers::Answer;
 use channels::{Description, Format};
 use fields::{Template, Wanted};
 use orders::Order;
-use record_writing::Written;
+use refusals::Refusal;
+use texts::Text;
+use words::Reason;
 
-// What `record_at` reads, and channels. The values stand in either order.
-pub fn write(text: &mut [u8; 65536], used: u16, line: &[u8], at: usize, order: Order) -> u16 {
+// A record's description, and what else it is to be written of.
+#[derive(Clone, Copy)]
+struct RecordAsked {
+    description: Description,
+    wanted: Wanted,
+}
+
+// What `record_at` reads, and channels.
+fn record_asked_at(
+    line: &[u8],
+    at: usize,
+    values: &mut [i32; 131072],
+    space: &mut [u8; 131072],
+) -> Result<RecordAsked, Reason> {
+    let wanted = fields::record_at(line, at, values, space)?;
+    let mark = sayings::mark_at(line, wanted.behind, Format::Full);
+    Ok(RecordAsked {
+        description: sayings::described_at(line, mark.behind, mark.value)?,
+        wanted: wanted.value,
+    })
+}
+
+// The values stand in either order.
+pub fn write(text: &mut Text, line: &[u8], at: usize, order: Order) {
     let mut values = [0; 131072];
     let mut space = [0; 131072];
-    let wanted = fields::record_at(line, at, &mut values, &mut space);
-    let marked = sayings::mark_at(line, wanted.behind, Format::Full);
-    let mark = marked.mark;
-    let reason = fields::first_of(wanted.reason, sayings::reason_at(line, marked.behind));
-    if reason != words::NO_REASON {
-        return answers::cannot(text, used, reason);
+    match record_asked_at(line, at, &mut values, &mut space) {
+        Ok(asked) => {
+            let wanted = asked.wanted;
+            write_record(
+                text,
+                asked.description,
+                wanted,
+                &values[0..wanted.given],
+                &space[0..wanted.lent],
+                order,
+            )
+        }
+        Err(reason) => answers::cannot(text, reason),
     }
-    write_record(
-        text,
-        used,
-        sayings::description_at(line, marked.behind, mark),
-        wanted,
-        numerals::first(&values, wanted.given),
-        hexadecimal::first(&space, wanted.lent),
-        order,
-    )
 }
 
 fn write_record(
-    text: &mut [u8; 65536],
-    used: u16,
+    text: &mut Text,
     description: Description,
     wanted: Wanted,
     values: &[i32],
     extended: &[u8],
     order: Order,
-) -> u16
-    requires { wanted.room ≤ 131072 }
-{
+) {
     let mut out = [170; 131072];
-    let room = wanted.room;
-    let written = ask(
-        description,
-        wanted,
-        values,
-        extended,
-        order,
-        &mut out[0..room],
-    );
-    put(
-        text,
-        used,
-        of_written(written),
-        hexadecimal::first(&out, room),
-    )
+    let lent = &mut out[0..wanted.room];
+    let written = ask(description, wanted, values, extended, order, lent);
+    put(text, of_written(written), &out[0..wanted.room]);
 }
 
 fn ask(
@@ -67,7 +72,7 @@ fn ask(
     extended: &[u8],
     order: Order,
     out: &mut [u8],
-) -> Written {
+) -> Result<usize, Refusal> {
     let count = wanted.count;
     let asked = wanted.extended;
     match order {
@@ -82,64 +87,58 @@ fn done(length: usize) -> Answer {
     answers::plain(answers::WRITTEN, 1, length as u64)
 }
 
-fn of_written(written: Written) -> Answer {
+fn of_written(written: Result<usize, Refusal>) -> Answer {
     match written {
-        Written::Record { length } => done(length),
-        Written::Refused(refusal) => answers::of_refusal(refusal),
+        Ok(length) => done(length),
+        Err(refusal) => answers::of_refusal(refusal),
     }
 }
 
 // What was written or why not, and all the bytes that were lent.
-fn put(text: &mut [u8; 65536], start: u16, answer: Answer, lent: &[u8]) -> u16 {
-    let used = answers::put(text, start, answer);
-    answers::put_lent(text, used, lent)
+fn put(text: &mut Text, answer: Answer, lent: &[u8]) {
+    answers::put(text, answer);
+    answers::put_lent(text, lent);
+}
+
+// A template's description, and what else it is to be written of.
+#[derive(Clone, Copy)]
+struct TemplateAsked {
+    description: Description,
+    template: Template,
 }
 
 // What `template_at` reads, and channels.
-pub fn write_template(text: &mut [u8; 65536], used: u16, line: &[u8], at: usize) -> u16 {
-    let template = fields::template_at(line, at);
-    let marked = sayings::mark_at(line, template.behind, Format::Compact);
-    let mark = marked.mark;
-    let reason = fields::first_of(template.reason, sayings::reason_at(line, marked.behind));
-    if reason != words::NO_REASON {
-        return answers::cannot(text, used, reason);
-    }
-    write_described(
-        text,
-        used,
-        sayings::description_at(line, marked.behind, mark),
-        template,
-    )
+fn template_asked_at(line: &[u8], at: usize) -> Result<TemplateAsked, Reason> {
+    let template = fields::template_at(line, at)?;
+    let mark = sayings::mark_at(line, template.behind, Format::Compact);
+    Ok(TemplateAsked {
+        description: sayings::described_at(line, mark.behind, mark.value)?,
+        template: template.value,
+    })
 }
 
-fn write_described(
-    text: &mut [u8; 65536],
-    used: u16,
-    description: Description,
-    template: Template,
-) -> u16
-    requires { template.room ≤ 131072 }
-{
+pub fn write_template(text: &mut Text, line: &[u8], at: usize) {
+    match template_asked_at(line, at) {
+        Ok(asked) => write_described(text, asked.description, asked.template),
+        Err(reason) => answers::cannot(text, reason),
+    }
+}
+
+fn write_described(text: &mut Text, description: Description, template: Template) {
     let mut out = [170; 131072];
-    let room = template.room;
     let written = template_writing::write(
         template.described,
         description,
         template.limited,
         template.maximum,
-        &mut out[0..room],
+        &mut out[0..template.room],
     );
-    put(
-        text,
-        used,
-        of_template(written),
-        hexadecimal::first(&out, room),
-    )
+    put(text, of_template(written), &out[0..template.room]);
 }
 
-fn of_template(written: template_writing::Written) -> Answer {
+fn of_template(written: Result<usize, Refusal>) -> Answer {
     match written {
-        template_writing::Written::Done(length) => done(length),
-        template_writing::Written::Refused(refusal) => answers::of_refusal(refusal),
+        Ok(length) => done(length),
+        Err(refusal) => answers::of_refusal(refusal),
     }
 }

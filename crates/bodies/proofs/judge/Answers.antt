@@ -11,14 +11,14 @@ whole : (c : After-read-read) → let a = c.args in
     judged_by c.read-read.result a.body.now ≡ judged_by (template_of a.template.now) a.body.now
 whole c = ap (λ j. judged_by j c.args.body.now) c.read-read.ensures
 
-pub returns-in-Refused : goal.returns-in-Refused
-returns-in-Refused c =
-    c.unjudged.ensures ∙ judged-refused _ _ _ c.rule_of-rule.ensures c.in-Refused.is ∙ whole (goal.at.returns-in-Refused c).After-read-read
+pub returns-in-Err : goal.returns-in-Err
+returns-in-Err c =
+    c.unjudged.ensures ∙ judged-refused _ _ _ c.rule_of-rule.ensures c.in-Err.is ∙ whole (goal.at.returns-in-Err c).After-read-read
 
-pub returns-in-Refused-verdict : goal.returns-in-Refused-verdict
-returns-in-Refused-verdict c =
-    c.unjudged-in-Refused-verdict.ensures ∙ judged-faulty _ _ _ c.rule_of-rule.ensures c.in_default.is c.verdict_by-verdict.ensures c.in-Refused-verdict.is ∙ whole (goal.at.returns-in-Refused-verdict c).After-read-read
+pub returns-in-Err-verdict : goal.returns-in-Err-verdict
+returns-in-Err-verdict c =
+    c.unjudged-in-Err-verdict.ensures ∙ judged-faulty _ _ _ c.rule_of-rule.ensures c.in_default.is c.verdict_by-verdict.ensures c.in-Err-verdict.is ∙ whole (goal.at.returns-in-Err-verdict c).After-read-read
 
 pub returns : goal.returns
 returns c =
-    judged-body _ _ _ c.rule_of-rule.ensures c.in_default.is c.verdict_by-verdict.ensures c.in_default-verdict.not-Refused ∙ whole (goal.at.returns c).After-read-read
+    judged-body _ _ _ c.rule_of-rule.ensures c.in_default.is c.verdict_by-verdict.ensures c.in_default-verdict.not-Err ∙ whole (goal.at.returns c).After-read-read

@@ -11,9 +11,9 @@ whole : (c : After-read-read) → let a = c.args in
     pointed_by a.index c.read-read.result a.body.now ≡ pointed_by a.index (template_of a.template.now) a.body.now
 whole c = let a = c.args in ap (λ j. pointed_by a.index j a.body.now) c.read-read.ensures
 
-pub returns-in-Refused : goal.returns-in-Refused
-returns-in-Refused c =
-    pointed-refused _ _ _ c.rule_of-rule.ensures c.in-Refused.is _ ∙ whole (goal.at.returns-in-Refused c).After-read-read
+pub returns-in-Err : goal.returns-in-Err
+returns-in-Err c =
+    pointed-refused _ _ _ c.rule_of-rule.ensures c.in-Err.is _ ∙ whole (goal.at.returns-in-Err c).After-read-read
 
 pub returns : goal.returns
 returns c =

@@ -1,7 +1,7 @@
 -- `bodies::judge_values` meets its contract: each test of the code is a stage of the definition.
+use Rattle.std.specs.Prelude.{Err}
 use mathlib.Core.Path.{◌≡◌, sym, ap, ◌∙◌}
 use Rattle.refusals.specs.Stages.{require, or_else, stages, compactly}
-use Rattle.refusals.specs.declared.Judgement.TheVariants.{Refused}
 use Rattle.points.specs.Points.{width}
 use Rattle.orders.specs.declared.Order.TheVariants.{Point}
 use Rattle.values.specs.Values.{judgement_of}
@@ -24,11 +24,11 @@ pub returns-then-not-count_fits : goal.returns-then-not-count_fits
 unfolding judgement_by stages or_else require
 returns-then-not-count_fits c = rw (fits (goal.at.returns-then-not-count_fits c).After-count_fits ∙ c.if-not-count_fits.true)
 
-pub returns-in-Refused : goal.returns-in-Refused
+pub returns-in-Err : goal.returns-in-Err
 unfolding judgement_by stages or_else require compactly
-returns-in-Refused c =
-    let v = (goal.at.returns-in-Refused c).After-judge-judged in
-    ap Refused c.in_compact.ensures ∙ sym (rw (fits (goal.at.returns-in-Refused c).After-count_fits ∙ c.if-not-count_fits.false, judged v ∙ c.in-Refused.is))
+returns-in-Err c =
+    let v = (goal.at.returns-in-Err c).After-judge-judged in
+    ap Err c.in_compact.ensures ∙ sym (rw (fits (goal.at.returns-in-Err c).After-count_fits ∙ c.if-not-count_fits.false, judged v ∙ c.in-Err.is))
 
 pub returns-then-wanted : goal.returns-then-wanted
 unfolding judgement_by stages or_else require compactly

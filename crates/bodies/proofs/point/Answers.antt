@@ -5,7 +5,7 @@ use Rattle.templates.specs.Reading.{template_of}
 use Rattle.bodies.specs.Reading.{rule_of}
 use Rattle.bodies.proofs.Pointing.{Shown, shown-there, shown-none, point-within}
 use Rattle.bodies.proofs.point.Goals as goal
-use Rattle.bodies.proofs.point.Goals.{After-rule_of-rule, Joined-pointed, in-Point, in_default}
+use Rattle.bodies.proofs.point.Goals.{After-rule_of-rule, Joined-pointed, in-Ok, in_default}
 
 -- the rule is that of the template's bytes
 rule : (c : After-rule_of-rule) → c.rule_of-rule.result ≡ rule_of (template_of c.args.template.now)
@@ -13,7 +13,7 @@ rule c = c.rule_of-rule.ensures ∙ ap rule_of c.read-read.ensures
 
 pub overflow_mul-start : goal.overflow_mul-start
 overflow_mul-start c =
-    let z = point-within _ _ _ (sym c.judge_point-pointed.ensures ∙ c.in-Point.is) _ (rule (goal.at.overflow_mul-start c).After-rule_of-rule) c.width.ensures.0 in
+    let z = point-within _ _ _ (sym c.judge_point-pointed.ensures ∙ c.in-Ok.is) _ (rule (goal.at.overflow_mul-start c).After-rule_of-rule) c.width.ensures.0 in
     record { fits = omega (arith, z, c.well_formed.1.0) }
 
 -- where the ways meet, the places are read by the flags of the template, or of no channel
@@ -22,9 +22,9 @@ shown : (c : Joined-pointed) → let a = c.args in
 shown c =
     let r = rule (goal.at.Joined-pointed c).After-rule_of-rule in
     elim c.match-pointed.branch [
-      | in-Point w ↦
-          rw (w.included-is, w.stored-is, w.start-is) (shown-there _ _ _ (sym c.judge_point-pointed.ensures ∙ w.in-Point.is) _ r w.width.ensures.0)
-      | in_default w ↦ rw (w.included-is, w.stored-is, w.start-is) (shown-none _ _ _ c.judge_point-pointed.ensures w.in_default.not-Point)
+      | in-Ok w ↦
+          rw (w.included-is, w.stored-is, w.start-is) (shown-there _ _ _ (sym c.judge_point-pointed.ensures ∙ w.in-Ok.is) _ r w.width.ensures.0)
+      | in_default w ↦ rw (w.included-is, w.stored-is, w.start-is) (shown-none _ _ _ c.judge_point-pointed.ensures (w.in_default.not-Ok tt))
     ]
 
 pub returns : goal.returns

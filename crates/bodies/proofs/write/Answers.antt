@@ -12,9 +12,9 @@ whole : (c : After-read-read) → let a = c.args in
     ≡ write_by (template_of a.template.now) a.count a.values.now a.wanted a.out.now
 whole c = let a = c.args in ap (λ j. write_by j a.count a.values.now a.wanted a.out.now) c.read-read.ensures
 
-pub returns-in-Refused : goal.returns-in-Refused
-returns-in-Refused c =
-    write-refused _ _ c.rule_of-rule.ensures _ _ _ _ c.in-Refused.is ∙ whole (goal.at.returns-in-Refused c).After-read-read
+pub returns-in-Err : goal.returns-in-Err
+returns-in-Err c =
+    write-refused _ _ c.rule_of-rule.ensures _ _ _ _ c.in-Err.is ∙ whole (goal.at.returns-in-Err c).After-read-read
 
 pub returns : goal.returns
 returns c =

@@ -1,4 +1,5 @@
 -- `bodies::write_ruled` meets its contract: what the stages say, and then the room, decides what becomes of the output.
+use Rattle.std.specs.Prelude.{Ok, Result, ⊤}
 use mathlib.Core.Path.{◌≡◌, sym, ap, ap₂, ◌∙◌}
 use mathlib.Core.List.{List}
 use Prim.Native.Nat.{ℕ, ◌*◌}
@@ -7,17 +8,15 @@ use native.Mathlib.Omega.{arith}
 use lib.ListN.{length}
 use borrow.Author.Tests.{le-leb, lt-leb}
 use Rattle.formats.specs.Lent.{writing}
-use Rattle.refusals.specs.declared.Judgement.{Judgement}
-use Rattle.refusals.specs.declared.Judgement.TheVariants.{Passed}
 use Rattle.orders.specs.Orders.{size, points_of}
 use Rattle.orders.specs.declared.Order.TheVariants.{Point}
 use Rattle.values.proofs.ValueLaws.{fits-length, put-laid}
 use Rattle.bodies.specs.Body.{encode_body}
 use Rattle.bodies.specs.Writing.{put_where, write_ruled}
-use Rattle.bodies.specs.declared.Written.TheVariants as written
 use Rattle.bodies.proofs.WritingLaws.{Passes, passes, fits-small}
 use Rattle.bodies.proofs.write_ruled.Goals as goal
 use Rattle.bodies.proofs.write_ruled.Goals.{After-judge_values-judged, After-width, Start}
+use Rattle.refusals.specs.declared.Refusal.{Refusal}
 
 -- what the stages said decides
 module _ (m : After-judge_values-judged) where
@@ -27,17 +26,17 @@ module _ (m : After-judge_values-judged) where
   abbrev meant : List ℕ
   meant = encode_body asked.args.stored (points_of Point asked.args.count (size asked.args.stored) asked.args.values.now)
 
-  by : {j : Judgement} → m.judge_values-judged.result ≡ j → let a = asked.args in
+  by : {j : Result ⊤ Refusal} → m.judge_values-judged.result ≡ j → let a = asked.args in
       write_ruled a.stored a.limited a.maximum a.count a.values.now a.wanted a.out.now ≡ put_where meant a.out.now j
   unfolding write_ruled
   by e = ap (put_where meant asked.args.out.now) (sym m.judge_values-judged.ensures ∙ e)
 
-  pass : m.judge_values-judged.result ≡ Passed → let a = asked.args in Passes a.stored a.limited a.maximum a.count a.values.now
+  pass : m.judge_values-judged.result ≡ Ok tt → let a = asked.args in Passes a.stored a.limited a.maximum a.count a.values.now
   pass e = let a = asked.args in passes a.stored a.limited a.maximum a.count a.values.now a.wanted (sym m.judge_values-judged.ensures ∙ e)
 
-pub returns-in-Refused : goal.returns-in-Refused
+pub returns-in-Err : goal.returns-in-Err
 unfolding put_where
-returns-in-Refused c = sym (by (goal.at.returns-in-Refused c).After-judge_values-judged c.in-Refused.is)
+returns-in-Err c = sym (by (goal.at.returns-in-Err c).After-judge_values-judged c.in-Err.is)
 
 -- the length, by the count and the width
 module _ (c : After-width) where
@@ -71,5 +70,5 @@ returns c =
     let m = from w in
     let a = (asked m).args in
     let h = put-laid 1 a.stored Point a.count a.values.now (passed w).fitting (record { enough = omega (arith, long w) }) c.put.ensures in
-    ap₂ (λ n t. writing (written.Body n) t) (long w) h.bytes
+    ap₂ (λ n t. writing (Ok n) t) (long w) h.bytes
     ∙ sym (by m w.in_default.is ∙ rw (le-leb (length (meant m)) (length a.out.now) (omega (arith, long w))))

@@ -1,19 +1,19 @@
--- `channels::is_same` meets its contract: each pair of arms is the definition's.
+-- `channels::is_same` meets its contract: what the derived equality answers is the definition's, case by case.
+use Rattle.std.specs.Prelude.{◌≡◌, refl}
+use Rattle.std.proofs.Common.{◌∙◌}
+use denote.Enum.Bare.{sameb}
+use Rattle.channels.specs.contracts.Format.{the_type}
+use Rattle.channels.specs.declared.Format.{Format}
+use Rattle.channels.specs.declared.Format.TheVariants.{Full, Compact}
 use Rattle.channels.specs.Channel.{is_same}
 use Rattle.channels.proofs.is_same.Goals as goal
 
-pub returns-in-Full-other : goal.returns-in-Full-other
+each : (format other : Format) → sameb the_type format other ≡ is_same format other
 unfolding is_same
-returns-in-Full-other c = rw (c.in-Full.is, c.in-Full-other.is)
+each Full Full = refl
+each Full Compact = refl
+each Compact Full = refl
+each Compact Compact = refl
 
-pub returns-in-Compact-other : goal.returns-in-Compact-other
-unfolding is_same
-returns-in-Compact-other c = rw (c.in-Full.is, c.in-Compact-other.is)
-
-pub returns-in-Full-other-2 : goal.returns-in-Full-other-2
-unfolding is_same
-returns-in-Full-other-2 c = rw (c.in-Compact.is, c.in-Full-other-2.is)
-
-pub returns-in-Compact-other-2 : goal.returns-in-Compact-other-2
-unfolding is_same
-returns-in-Compact-other-2 c = rw (c.in-Compact.is, c.in-Compact-other-2.is)
+pub returns : goal.returns
+returns c = c.eq.ensures ∙ each c.args.format c.args.other

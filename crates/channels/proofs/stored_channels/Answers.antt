@@ -1,34 +1,8 @@
--- `channels::stored_channels` meets its contract. The invariant: the flags are those set so far, and what the channels left are.
-use mathlib.Core.Path.{◌≡◌, refl, sym, ◌∙◌}
-use native.Mathlib.Omega.{arith}
-use lib.ListN.{length, length-set}
+-- `channels::stored_channels` meets its contract: each call of its closure says whether the channel at that place is stored.
+use Rattle.std.proofs.Common.{rules}
 use Rattle.channels.specs.Descriptors.{is_stored}
-use Rattle.channels.proofs.Flagging.{flagging, flag-next, flagged-all}
+use Rattle.channels.proofs.Flagging.{flagged}
 use Rattle.channels.proofs.stored_channels.Goals as goal
-use Rattle.channels.proofs.stored_channels.Goals.{At-loop-i, Start}
-
-sixteen : (s : Start) → length s.args.d.channels ≡ 16
-sixteen s = s.well_formed.0.1.1.0.1.0.1
-
-pub loop-i-init : goal.loop-i-init
-unfolding flagging
-loop-i-init c = (omega arith, refl, refl)
-
-pub overflow_add-i : goal.overflow_add-i
-overflow_add-i c = omega arith
-
-pub loop-i-smaller : goal.loop-i-smaller
-loop-i-smaller c = omega arith
-
-pub loop-i-preserved : goal.loop-i-preserved
-loop-i-preserved c =
-    let l = (goal.at.loop-i-preserved c).At-loop-i in (
-      omega arith,
-      simp length-set l.loop-i.invariant.1,
-      l.loop-i.invariant.2 ∙ flag-next is_stored _ _ _ _ (omega (arith, l.loop-i.invariant.1)) (omega (arith, sixteen (goal.at.At-loop-i l).Start)) c.is_stored.ensures,
-    )
 
 pub returns : goal.returns
-returns c =
-    let l = (goal.at.returns c).At-loop-i in
-    sym (l.loop-i.invariant.2 ∙ flagged-all is_stored _ _ l.loop-i.i (omega (arith, sixteen (goal.at.At-loop-i l).Start)) (omega (arith, l.loop-i.invariant.1)))
+returns c = flagged _ _ is_stored c.args.d.channels (λ i r q h k. (search rules, search rules)) _ 16 (search rules) c.from_fn.ensures.items

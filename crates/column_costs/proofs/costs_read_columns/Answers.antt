@@ -3,14 +3,14 @@ use mathlib.Core.Path.{sym, ap, ◌∙◌}
 use Rattle.column_costs.specs.Handed.{handing, handed_number, handed_filling}
 use Rattle.column_costs.proofs.costs_read_columns.Goals as goal
 
-pub returns-in-Columns : goal.returns-in-Columns
+pub returns-in-Ok : goal.returns-in-Ok
 unfolding handed_filling
-returns-in-Columns c =
+returns-in-Ok c =
     let m = c.read_columns-filled in
-    ap (λ answer. handing (handed_number answer) m.new.values) (sym c.in-Columns.is) ∙ ap handed_filling m.ensures
+    ap (λ answer. handing (handed_number answer) m.new.values) (sym c.in-Ok.is) ∙ ap handed_filling m.ensures
 
-pub returns-in-Refused : goal.returns-in-Refused
+pub returns-in-Err : goal.returns-in-Err
 unfolding handed_filling
-returns-in-Refused c =
+returns-in-Err c =
     let m = c.read_columns-filled in
-    rw c.number.ensures (ap (λ answer. handing (handed_number answer) m.new.values) (sym c.in-Refused.is) ∙ ap handed_filling m.ensures)
+    rw c.number.ensures (ap (λ answer. handing (handed_number answer) m.new.values) (sym c.in-Err.is) ∙ ap handed_filling m.ensures)

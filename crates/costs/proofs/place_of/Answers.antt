@@ -3,10 +3,10 @@ use mathlib.Core.Path.{sym, ap, ◌∙◌}
 use Rattle.costs.specs.Handed.{handed_place, handed_where}
 use Rattle.costs.proofs.place_of.Goals as goal
 
-pub returns-in-At : goal.returns-in-At
+pub returns-in-Some : goal.returns-in-Some
 unfolding handed_place
-returns-in-At c = sym (ap handed_where (sym c.place-place.ensures ∙ c.in-At.is))
+returns-in-Some c = sym (ap handed_where (sym c.place-place.ensures ∙ c.in-Some.is))
 
-pub returns-in-Nowhere : goal.returns-in-Nowhere
+pub returns-in-None : goal.returns-in-None
 unfolding handed_place
-returns-in-Nowhere c = sym (ap handed_where (sym c.place-place.ensures ∙ c.in-Nowhere.is))
+returns-in-None c = sym (ap handed_where (sym c.place-place.ensures ∙ c.in-None.is))

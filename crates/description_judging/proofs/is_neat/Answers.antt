@@ -1,48 +1,24 @@
--- `description_judging::is_neat` meets its contract. The invariant: all are tidy where those from here on are. The measure is the number of channels left.
-use mathlib.Core.Path.{◌≡◌, sym, ◌∙◌}
-use native.Mathlib.Omega.{arith}
+-- `description_judging::is_neat` meets its contract: what is asked of all is asked of each.
+use mathlib.Core.Path.{◌≡◌, refl, ap, ◌∙◌}
+use mathlib.Core.Bool.{Bool, ◌&&◌}
+use mathlib.Core.List.{List, [], ◌∷◌}
+use Prim.Native.Nat.{ℕ, suc}
 use borrow.Author.Rules.{rules}
-use lib.ListN.{length}
-use Rattle.descriptions.specs.Description.{tidy_descriptor, neat}
-use Rattle.description_judging.proofs.Judging.{every-none, every-fails, every-passes}
+use Rattle.std.specs.List.{list_all}
+use Rattle.std.proofs.lemmas.Iterator.{YieldsList-from_slice}
+use Rattle.std.proofs.lemmas.Iterator.Search.{all_from_yields_List}
+use Rattle.channels.specs.declared.Descriptor.{Descriptor}
+use Rattle.descriptions.specs.Description.{tidy_descriptor, neat, every}
 use Rattle.description_judging.proofs.is_neat.Goals as goal
-use Rattle.description_judging.proofs.is_neat.Goals.{After-tidy_descriptor, At-loop-i, Start}
 
-sixteen : (s : Start) → length s.args.description.channels ≡ 16
-sixteen s = s.well_formed.0.1.1.0.1.0.1
-
-pub loop-i-init : goal.loop-i-init
-unfolding neat
-loop-i-init c = search rules
-
-pub returns-then-not-tidy_descriptor : goal.returns-then-not-tidy_descriptor
-returns-then-not-tidy_descriptor c =
-    let m = (goal.at.returns-then-not-tidy_descriptor c).After-tidy_descriptor in
-    let l = (goal.at.After-tidy_descriptor m).At-loop-i in
-    sym
-    (l.loop-i.invariant.1
-    ∙ every-fails
-    (λ channel. tidy_descriptor)
-    l.args.description.channels
-    l.loop-i.i
-    (omega (arith, sixteen (goal.at.At-loop-i l).Start))
-    (sym m.tidy_descriptor.ensures ∙ c.if-not-tidy_descriptor.true))
-
-pub loop-i-preserved : goal.loop-i-preserved
-loop-i-preserved c =
-    let m = (goal.at.loop-i-preserved c).After-tidy_descriptor in
-    let l = (goal.at.After-tidy_descriptor m).At-loop-i in (
-      search rules,
-      l.loop-i.invariant.1
-          ∙ every-passes
-          (λ channel. tidy_descriptor)
-          l.args.description.channels
-          l.loop-i.i
-          (omega (arith, sixteen (goal.at.At-loop-i l).Start))
-          (sym m.tidy_descriptor.ensures ∙ c.if-not-tidy_descriptor.false),
-    )
+all_every : (p : Descriptor → Bool) (i : ℕ) (ds : List Descriptor) → list_all p ds ≡ every (λ channel. p) i ds
+unfolding every
+all_every p i [] = refl
+all_every p i (d ∷ ds) = ap (λ t. p d && t) (all_every p (suc i) ds)
 
 pub returns : goal.returns
+unfolding neat
 returns c =
-    let l = (goal.at.returns c).At-loop-i in
-    sym (l.loop-i.invariant.1 ∙ every-none (λ channel. tidy_descriptor) l.args.description.channels l.loop-i.i (omega (arith, sixteen (goal.at.At-loop-i l).Start)))
+    let ds = c.args.description.channels in
+    let asked : c.all.result ≡ list_all tidy_descriptor ds = all_from_yields_List tidy_descriptor _ _ _ c.all.ensures.ran (YieldsList-from_slice ds (cc)) (λ x b q k. (search rules, search rules)) in
+    asked ∙ all_every tidy_descriptor 0 ds

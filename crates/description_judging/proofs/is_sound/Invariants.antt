@@ -1,7 +1,7 @@
--- `description_judging::is_sound` meets its contract. The invariant: all are sound where those from here on are, and the highest bit of the signs is this channel's. The measure is the number of channels left.
+-- `description_judging::is_sound` meets its contract. The invariant: all are sound where those from here on are, and the highest bit of the signs is this channel's.
 use mathlib.Core.Path.{◌≡◌}
 use mathlib.Core.Bool.{Bool, ◌&&◌}
-use Prim.Native.Nat.{ℕ, ◌≤◌, ◌-◌}
+use Prim.Native.Nat.{ℕ}
 use lib.ListN.{drop}
 use Rattle.channels.specs.BitLaws.{SignsLeft}
 use Rattle.channels.specs.Channel.{width_of}
@@ -13,9 +13,6 @@ use Rattle.description_judging.proofs.is_sound.Given as goal
 abbrev pub sound : ℕ → ℕ → Descriptor → Bool
 sound w channel d = tidy_descriptor d && fits_descriptor w channel d
 
-abbrev pub invariant-loop-i : goal.invariant-loop-i
-invariant-loop-i l =
-    (l.i ≤ 16) × SignsLeft l.signs l.i × ((neat l.description && all_fit (width_of l.format) l.description) ≡ every (sound (width_of l.format)) l.i (drop l.i l.description.channels))
-
-abbrev pub decreases-loop-i : goal.decreases-loop-i
-decreases-loop-i l = 16 - l.i
+abbrev pub invariant-loop-d : goal.invariant-loop-d
+invariant-loop-d l =
+    SignsLeft l.signs l.d-index × ((neat l.fn.description && all_fit (width_of l.format) l.fn.description) ≡ every (sound (width_of l.format)) l.d-index (drop l.d-index l.fn.description.channels))

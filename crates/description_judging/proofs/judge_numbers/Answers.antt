@@ -1,4 +1,5 @@
 -- `description_judging::judge_numbers` meets its contract: of a tidy attribute the check says whether it fits, and the first that does not is named.
+use Rattle.std.specs.Prelude.{Result, ⊤}
 use mathlib.Core.Path.{◌≡◌, refl, sym, ap, ap₂, ◌∙◌}
 use mathlib.Core.Bool.{Bool, false}
 use Prim.Native.Nat.{ℕ, ◌-◌, ◌^◌}
@@ -10,7 +11,6 @@ use mir.Val.{to_z, of_z}
 use mir.ValLaws.{to_z-of_z}
 use Rattle.refusals.specs.Stages.{require, or_else}
 use Rattle.refusals.specs.Ranges.{first_misfit}
-use Rattle.refusals.specs.declared.Judgement.{Judgement}
 use Rattle.channels.specs.Channel.{width_of, signed_of}
 use Rattle.channels.specs.Stored.{offset, value_of}
 use Rattle.channels.specs.declared.Descriptor.{Descriptor}
@@ -19,6 +19,7 @@ use Rattle.description_judging.specs.Judging.{numbers_of}
 use Rattle.description_judging.proofs.Judging.{second, TidyAttributes, tidy-attributes, largest-deviation}
 use Rattle.description_judging.proofs.judge_numbers.Goals as goal
 use Rattle.description_judging.proofs.judge_numbers.Goals.{After-sound_attribute, After-sound_attribute-2, After-sound_attribute-3, After-sound_attribute-4, After-sound_attribute-5, After-value_of-most, Else-not-sound_attribute, Else-not-sound_attribute-2, Else-not-sound_attribute-3, Else-not-sound_attribute-4, Else-not-sound_attribute-5, Start}
+use Rattle.refusals.specs.declared.Refusal.{Refusal}
 
 -- ---- Where the bounds are known
 
@@ -49,7 +50,7 @@ module _ (c : After-value_of-most) where
   most = to_z-of_z w32 c.value_of-most.result (search rules) ∙ c.value_of-most.ensures ∙ ap₂ (value_of width) signed c.largest-largest.ensures
 
   -- what is said of the numbers behind the first k
-  abbrev left : ℕ → Judgement
+  abbrev left : ℕ → Result ⊤ Refusal
   left k = first_misfit (drop k (numbers_of width start.args.channel descriptor))
 
 -- ---- What the check says of each attribute, and what is left behind it

@@ -17,7 +17,7 @@ use Rattle.descriptions.specs.Description.{encode_channel, encode_description, f
 use Rattle.description_judging.proofs.Judging.{every_holds}
 use Rattle.description_writing.proofs.Laying.{left, left-next, left-none}
 use Rattle.description_writing.proofs.put_description.Goals as goal
-use Rattle.description_writing.proofs.put_description.Goals.{After-leads, After-put_channel-at, After-put_number-at, At-loop-i, In-loop-i, Start}
+use Rattle.description_writing.proofs.put_description.Goals.{After-leads, After-put_channel-at, After-put_number-at, At-loop-d, In-loop-d, Start}
 
 sixteen : (s : Start) → length s.args.description.channels ≡ 16
 sixteen s = s.well_formed.1.1.0.1.1.0.1.0.1
@@ -31,53 +31,53 @@ module _ (n : After-put_number-at) where
   unfolding encode_description
   laid = number-laid 2 _ _ _ (room-first _ _ start.requires.1) (rw n.inclusion.ensures at n.put_number-at.ensures)
 
-pub loop-i-init : goal.loop-i-init
+pub loop-d-init : goal.loop-d-init
 unfolding all_fit left
-loop-i-init c = (omega arith, (start (goal.at.loop-i-init c).After-put_number-at).requires.0, owed_all _ _ _, signs-none c.signs-signs.ensures)
+loop-d-init c = ((start (goal.at.loop-d-init c).After-put_number-at).requires.0, owed_all _ _ _, signs-none c.signs-signs.ensures)
 
 -- this channel and those behind it: their numbers fit, and their bytes are what is left
-module _ (c : In-loop-i) where
+module _ (c : In-loop-d) where
   abbrev number : After-put_number-at
-  number = (goal.at.In-loop-i c).After-put_number-at
+  number = (goal.at.In-loop-d c).After-put_number-at
 
-  sign : bit 16 c.loop-i.signs ≡ signed_of c.loop-i.i
-  sign = sign-first c.loop-i.invariant.3 c.loop-i-test.true
+  sign : bit 16 c.loop-d.signs ≡ signed_of c.loop-d.d-index
+  sign = sign-first c.loop-d.invariant.2 c.loop-d-test.true
 
-  fitting : T (fits_descriptor (width_of (start number).args.format) c.loop-i.i (get_or (start number).args.description.channels c.loop-i.i absent))
-      × T (every (fits_descriptor (width_of (start number).args.format)) (c.loop-i.i + 1) (drop (c.loop-i.i + 1) (start number).args.description.channels))
+  fitting : T (fits_descriptor (width_of (start number).args.format) c.loop-d.d-index (get_or (start number).args.description.channels c.loop-d.d-index absent))
+      × T (every (fits_descriptor (width_of (start number).args.format)) (c.loop-d.d-index + 1) (drop (c.loop-d.d-index + 1) (start number).args.description.channels))
   fitting =
-      every_holds (fits_descriptor (width_of (start number).args.format)) (start number).args.description.channels c.loop-i.i (omega (arith, sixteen (start number))) c.loop-i.invariant.1
+      every_holds (fits_descriptor (width_of (start number).args.format)) (start number).args.description.channels c.loop-d.d-index (omega (arith, sixteen (start number))) c.loop-d.invariant.0
 
   owed : Owed
       number.put_number-at.new.out
       number.put_number-at.result
       (encode_each (encode_channel (width_of (start number).args.format)) channels (start number).args.description.channels)
-      c.loop-i.out
-      c.loop-i.at
-      (encode_channel (width_of (start number).args.format) c.loop-i.i (get_or (start number).args.description.channels c.loop-i.i absent)
-      ++ left (width_of (start number).args.format) (start number).args.description.channels (c.loop-i.i + 1))
-  owed = rw (left-next (width_of (start number).args.format) (start number).args.description.channels (sixteen (start number)) c.loop-i.i c.loop-i-test.true) at c.loop-i.invariant.2
+      c.loop-d.out
+      c.loop-d.at
+      (encode_channel (width_of (start number).args.format) c.loop-d.d-index (get_or (start number).args.description.channels c.loop-d.d-index absent)
+      ++ left (width_of (start number).args.format) (start number).args.description.channels (c.loop-d.d-index + 1))
+  owed = rw (left-next (width_of (start number).args.format) (start number).args.description.channels (sixteen (start number)) c.loop-d.d-index c.loop-d-test.true) at c.loop-d.invariant.1
 
 pub put_channel-at-requires : goal.put_channel-at-requires
 unfolding encode_description
 put_channel-at-requires c =
-    let l = (goal.at.put_channel-at-requires c).In-loop-i in
+    let l = (goal.at.put_channel-at-requires c).In-loop-d in
     let n = number l in
-    (l.loop-i.i, c.leads.ensures ∙ sign l, (fitting l).0, room-first _ _ (owed-room (owed l) (room-rest (laid n) (start n).requires.1)))
+    (l.loop-d.d-index, c.leads.ensures ∙ sign l, (fitting l).0, room-first _ _ (owed-room (owed l) (room-rest (laid n) (start n).requires.1)))
 
-pub loop-i-preserved : goal.loop-i-preserved
-loop-i-preserved c =
-    let p = (goal.at.loop-i-preserved c).After-put_channel-at in
+pub loop-d-preserved : goal.loop-d-preserved
+loop-d-preserved c =
+    let p = (goal.at.loop-d-preserved c).After-put_channel-at in
     let e = (goal.at.After-put_channel-at p).After-leads in
-    let l = (goal.at.After-leads e).In-loop-i in
-    (omega arith, (fitting l).1, owed-next (owed l) (p.put_channel-at.ensures l.loop-i.i (e.leads.ensures ∙ sign l)), moved_on l.loop-i.invariant.3 c.behind_first-signs.ensures)
+    let l = (goal.at.After-leads e).In-loop-d in
+    ((fitting l).1, owed-next (owed l) (p.put_channel-at.ensures l.loop-d.d-index (e.leads.ensures ∙ sign l)), moved_on l.loop-d.invariant.2 c.behind_first-signs.ensures)
 
 pub shape_of-out : goal.shape_of-out
-shape_of-out c = let l = (goal.at.shape_of-out c).At-loop-i in l.loop-i.invariant.2.kept ∙ laid-length (laid (goal.at.At-loop-i l).After-put_number-at)
+shape_of-out c = let l = (goal.at.shape_of-out c).At-loop-d in l.loop-d.invariant.1.kept ∙ laid-length (laid (goal.at.At-loop-d l).After-put_number-at)
 
 pub returns : goal.returns
 unfolding encode_description
 returns c =
-    let l = (goal.at.returns c).At-loop-i in
-    let a = (start (goal.at.At-loop-i l).After-put_number-at).args in
-    laid_more (laid (goal.at.At-loop-i l).After-put_number-at) (owed_none (rw (left-none (width_of a.format) a.description.channels l.loop-i.i c.loop-i-test.false) at l.loop-i.invariant.2))
+    let l = (goal.at.returns c).At-loop-d in
+    let a = (start (goal.at.At-loop-d l).After-put_number-at).args in
+    laid_more (laid (goal.at.At-loop-d l).After-put_number-at) (owed_none (rw (left-none (width_of a.format) a.description.channels l.loop-d.d-index c.loop-d-test.false) at l.loop-d.invariant.1))

@@ -1,6 +1,5 @@
 -- `description_writing::put_description` meets its contract: the inclusion bits and the channels are laid one behind the other. The invariant of the channels:
--- what is left to lay from here makes of these bytes what the sixteen make of those that the loop found, and the highest bit of the signs is this channel's. The measure is the number of channels left.
-use Prim.Native.Nat.{◌≤◌, ◌-◌}
+-- what is left to lay from here makes of these bytes what the sixteen make of those that the loop found, and the highest bit of the signs is this channel's.
 use lib.Dec.{T}
 use lib.ListN.{drop}
 use Rattle.formats.specs.Laid.{Owed}
@@ -11,12 +10,8 @@ use Rattle.descriptions.specs.Description.{encode_channel, fits_descriptor, ever
 use Rattle.description_writing.proofs.Laying.{left}
 use Rattle.description_writing.proofs.put_description.Given as goal
 
-abbrev pub invariant-loop-i : goal.invariant-loop-i
-invariant-loop-i l =
-    (l.i ≤ 16)
-    × T (every (fits_descriptor (width_of l.format)) l.i (drop l.i l.description.channels))
-    × Owed l.initial.out l.initial.at (encode_each (encode_channel (width_of l.format)) channels l.description.channels) l.out l.at (left (width_of l.format) l.description.channels l.i)
-    × SignsLeft l.signs l.i
-
-abbrev pub decreases-loop-i : goal.decreases-loop-i
-decreases-loop-i l = 16 - l.i
+abbrev pub invariant-loop-d : goal.invariant-loop-d
+invariant-loop-d l =
+    T (every (fits_descriptor (width_of l.format)) l.d-index (drop l.d-index l.fn.description.channels))
+    × Owed l.initial.out l.initial.at (encode_each (encode_channel (width_of l.format)) channels l.fn.description.channels) l.out l.at (left (width_of l.format) l.fn.description.channels l.d-index)
+    × SignsLeft l.signs l.d-index

@@ -1,4 +1,5 @@
 -- `description_writing::put_where_room` meets its contract: the two tests together are the definition's, and none of its sums is too large.
+use Rattle.std.specs.Prelude.{Ok}
 use mathlib.Core.Path.{◌≡◌, sym, ap₂, ◌∙◌}
 use mathlib.Core.Bool.{true, false}
 use Prim.Native.Nat.{ℕ, ◌+◌, ◌-◌, ◌≤◌, ◌<◌}
@@ -9,7 +10,6 @@ use Rattle.formats.specs.Lent.{writing}
 use Rattle.channels.specs.Channel.{width_of}
 use Rattle.descriptions.specs.Description.{encode_description}
 use Rattle.description_writing.specs.Write.{put_room}
-use Rattle.description_writing.specs.declared.Written.TheVariants.{Done}
 use Rattle.description_writing.proofs.put_where_room.Goals as goal
 use Rattle.description_writing.proofs.put_where_room.Goals.{After-has_room, After-put_description-end, Else-not-has_room, Else-out-start, Start}
 
@@ -50,4 +50,4 @@ unfolding put_room
 returns c =
     let p = (goal.at.returns c).After-put_description-end in
     rw (le-leb _ _ (room (goal.at.After-put_description-end p).After-has_room p.if-not-has_room.false))
-    (ap₂ (λ n t. writing (Done n) t) p.put_description-end.ensures.place p.put_description-end.ensures.bytes)
+    (ap₂ (λ n t. writing (Ok n) t) p.put_description-end.ensures.place p.put_description-end.ensures.bytes)

@@ -1,17 +1,18 @@
 -- `descriptions::descriptor_end` meets its contract: the descriptor's byte is judged, and the attributes behind it are passed over at once.
+use Rattle.std.specs.Prelude.{Result, ℕ}
 use mathlib.Core.Path.{◌≡◌, sym, ap, ◌∙◌}
 use native.Mathlib.Omega.{arith}
 use Rattle.formats.specs.Reader.{Answer, mapped}
 use Rattle.formats.specs.Told.{told, told-mapped}
-use Rattle.formats.specs.declared.Outcome.{Outcome}
 use Rattle.channels.specs.declared.Descriptor.{Descriptor}
 use Rattle.descriptions.proofs.Parts.{low_clear, descriptor-out, descriptor-bad}
 use Rattle.descriptions.proofs.Measuring.{flags, descriptor-over, descriptor-cut}
 use Rattle.descriptions.proofs.descriptor_end.Goals as goal
 use Rattle.descriptions.proofs.descriptor_end.Goals.{After-descriptor_size-size}
+use Rattle.formats.specs.declared.Failure.{Failure}
 
 -- how it ended is told of its flags as well
-by_flags : (x : Answer Descriptor) {o : Outcome} → told (mapped flags x) ≡ o → o ≡ told x
+by_flags : (x : Answer Descriptor) {o : Result ℕ Failure} → told (mapped flags x) ≡ o → o ≡ told x
 by_flags x e = sym e ∙ told-mapped flags x
 
 pub returns-then-s-at : goal.returns-then-s-at

@@ -7,18 +7,18 @@ use Rattle.descriptions.proofs.inclusion_at.Goals.{Else-first-lt192}
 
 pub returns-then-s-start : goal.returns-then-s-start
 unfolding behind
-returns-then-s-start c format = rw c.no_inclusion.ensures (description-out format _ _ (omega arith))
+returns-then-s-start c format = description-out format _ _ (omega arith)
 
 pub returns-then-first-lt192 : goal.returns-then-first-lt192
 unfolding behind
-returns-then-first-lt192 c format = rw c.no_inclusion-then-first-lt192.ensures (description-bad format _ _ (omega arith) (omega arith))
+returns-then-first-lt192 c format = description-bad format _ _ (omega arith) (omega arith)
 
 pub returns-then-s-start-lt2 : goal.returns-then-s-start-lt2
 unfolding behind
 returns-then-s-start-lt2 c format =
     let e = (goal.at.returns-then-s-start-lt2 c).Else-first-lt192 in
     let a = e.args in
-    rw c.no_inclusion-then-s-start-lt2.ensures (description-cut format _ _ (omega arith) (omega arith) (e.shared_slice_known-2-1.given a.start).fits (omega arith))
+    description-cut format _ _ (omega arith) (omega arith) (e.shared_slice_known-2-1.given a.start).fits (omega arith)
 
 pub returns : goal.returns
 unfolding behind

@@ -1,8 +1,8 @@
 -- `double_costs::read_of` meets its contract, variant by variant. Assumes nothing.
 use Rattle.double_costs.proofs.read_of.Goals as goal
 
-pub returns-in-Double : goal.returns-in-Double
-returns-in-Double c = rw c.in-Double.is
+pub returns-in-Ok : goal.returns-in-Ok
+returns-in-Ok c = rw c.in-Ok.is
 
-pub returns-in-Refused : goal.returns-in-Refused
-returns-in-Refused c = rw (c.in-Refused.is, c.number.ensures)
+pub returns-in-Err : goal.returns-in-Err
+returns-in-Err c = rw (c.in-Err.is, c.number.ensures)

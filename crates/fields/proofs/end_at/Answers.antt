@@ -1,7 +1,7 @@
 -- `fields::end_at` finds no word where only spaces follow: the next word would begin with another byte.
-use mathlib.Core.Path.{◌≡◌, refl}
+use mathlib.Core.Path.{◌≡◌}
 use mathlib.Core.List.{List}
-use mathlib.Core.Logic.{inl, inr, ⊎_elim}
+use mathlib.Core.Logic.{⊎_elim}
 use Prim.Native.Nat.{ℕ, ◌≤◌}
 use native.Mathlib.Omega.{arith}
 use lib.ListN.{length}
@@ -20,8 +20,5 @@ ended line at from to w h =
 blank : (line : List ℕ) (at from to : ℕ) → Word line 32 at from to → to ≤ from → Blank line at
 blank line at from to w h k p q = w.begins.passed k (omega (arith, ended line at from to w h)) p
 
-pub returns-then-after : goal.returns-then-after
-returns-then-after c = (inr refl, (λ e. absurd (omega arith)))
-
 pub returns : goal.returns
-returns c = (inl refl, (λ e. blank _ _ _ _ c.next-after.ensures c.if-after.false))
+returns c = blank _ _ _ _ c.next-after.ensures c.if-after.false

@@ -1,24 +1,15 @@
--- `formats::put` meets its contract. The invariant: what is left to copy makes of these bytes what all that there is room for makes of those at the start.
-use mathlib.Core.Path.{◌≡◌, refl, ap, ◌∙◌}
-use Prim.Native.Nat.{◌≤◌, ◌-◌}
+-- `formats::put` meets its contract: what is copied are the first bytes, as many as there is room for.
+use mathlib.Core.Path.{◌≡◌, sym, ap, ◌∙◌}
+use mathlib.Core.List.{List, ◌++◌}
+use Prim.Native.Nat.{ℕ, ◌≤◌, ◌-◌, ◌+◌}
 use native.Mathlib.Omega.{arith}
-use lib.ListN.{length, take, length-set}
-use lib.Seq.{length-take-le, take_all, get_or-take}
-use Rattle.formats.specs.Laid.{laid_none, laid-within, copied_none, copied_next, copied_all}
+use lib.ListN.{length, take, drop}
+use lib.Seq.{drop-drop}
+use borrow.Rule.Slice.PartMut.{put_mid}
+use Rattle.std.proofs.lemmas.List.{length-take, take_min}
+use Rattle.formats.specs.Put.{puts, puts-is}
+use Rattle.formats.specs.Laid.{laid_none, laid-within}
 use Rattle.formats.proofs.put.Goals as goal
-use Rattle.formats.proofs.put.Goals.{then-room-bytes, else-room-bytes, At-loop-i, Joined-room-bytes}
-
--- as many bytes are copied as there are and there is room for
-fewer : (j : Joined-room-bytes) → let a = j.args in
-    let room = length a.out.now - a.start in
-    (j.if-room-bytes.count ≤ room) × (j.if-room-bytes.count ≤ length a.bytes.now) × (length (take room a.bytes.now) ≡ j.if-room-bytes.count)
-fewer j =
-    let a = j.args in
-    let room = length a.out.now - a.start in
-    elim j.if-room-bytes.branch [
-      | then-room-bytes w ↦ rw w.count-is (omega arith, omega arith, length-take-le room a.bytes.now (omega arith))
-      | else-room-bytes w ↦ rw w.count-is (omega arith, omega arith, ap length (take_all room a.bytes.now (omega arith)))
-    ]
 
 pub returns-then-out-start : goal.returns-then-out-start
 returns-then-out-start c =
@@ -26,48 +17,19 @@ returns-then-out-start c =
     let z : length a.out.now - a.start ≡ 0 = omega arith in
     laid-within _ (rw z (laid_none _ _))
 
-pub overflow_sub-room : goal.overflow_sub-room
-overflow_sub-room c = omega arith
-
-pub loop-i-init : goal.loop-i-init
-loop-i-init c = (omega arith, refl, copied_none _ _ _)
-
-pub bounds-bytes-i : goal.bounds-bytes-i
-bounds-bytes-i c = omega (arith, (fewer (goal.at.bounds-bytes-i c).Joined-room-bytes).1)
-
-pub overflow_add-out : goal.overflow_add-out
-overflow_add-out c = omega (arith, (fewer (goal.at.overflow_add-out c).Joined-room-bytes).0)
-
-pub bounds-out-start : goal.bounds-out-start
-bounds-out-start c = omega (arith, (fewer (goal.at.bounds-out-start c).Joined-room-bytes).0, c.loop-i.invariant.1)
-
-pub overflow_add-i : goal.overflow_add-i
-overflow_add-i c = omega (arith, (fewer (goal.at.overflow_add-i c).Joined-room-bytes).0)
-
-pub loop-i-smaller : goal.loop-i-smaller
-loop-i-smaller c = omega arith
-
-pub loop-i-preserved : goal.loop-i-preserved
-loop-i-preserved c =
-    let l = (goal.at.loop-i-preserved c).At-loop-i in
-    let j = (goal.at.At-loop-i l).Joined-room-bytes in
-    let a = j.args in
-    let f = fewer j in
-    let b = take (length a.out.now - a.start) a.bytes.now in (
-      omega arith,
-      length-set l.loop-i.out _ _ ∙ l.loop-i.invariant.1,
-      rw (get_or-take (length a.out.now - a.start) a.bytes.now l.loop-i.i 0 (omega (arith, f.0))) at (copied_next a.start b l.loop-i.i (omega (arith, f.2)) l.loop-i.invariant.2),
-    )
-
-pub overflow_add-result : goal.overflow_add-result
-overflow_add-result c = let l = (goal.at.overflow_add-result c).At-loop-i in omega (arith, (fewer (goal.at.At-loop-i l).Joined-room-bytes).0)
-
-pub shape_of-out : goal.shape_of-out
-shape_of-out c = c.loop-i.invariant.1
+-- a string written over a part of its length is put there
+over_part : (s : List ℕ) (at n : ℕ) (b : List ℕ) → length b ≡ n → at + n ≤ length s → put_mid at (at + n - at) s b ≡ puts s at b
+over_part s at n b e h =
+    let z : at + n - at ≡ n = omega arith in
+    rw z (ap (λ w. take at s ++ (b ++ w)) (drop-drop n at s ∙ ap (λ m. drop (at + m) s) (sym e)) ∙ sym (puts-is s at b (omega arith)))
 
 pub returns : goal.returns
 returns c =
-    let l = (goal.at.returns c).At-loop-i in
-    let j = (goal.at.At-loop-i l).Joined-room-bytes in
-    let a = j.args in
-    laid-within _ (copied_all a.start _ l.loop-i.i (omega (arith, (fewer j).2)) l.loop-i.invariant.2)
+    let a = c.args in
+    let room = length a.out.now - a.start in
+    let count : length (take room a.bytes.now) ≡ c.min-count.result = length-take room a.bytes.now ∙ sym c.min-count.ensures in
+    let copied : c.copy_from_slice.new.self ≡ take room a.bytes.now = c.copy_from_slice.ensures.after ∙ ap (λ n. take n a.bytes.now) c.min-count.ensures ∙ take_min room a.bytes.now in
+    laid-within a.bytes.now (record {
+      place = ap (λ n. a.start + n) (sym count);
+      bytes = rw copied (over_part a.out.now a.start c.min-count.result (take room a.bytes.now) count (omega (arith, c.min-count.ensures)));
+    })

@@ -2,8 +2,8 @@
 use Rattle.std.proofs.Common.{◌≤◌, ◌-◌, length}
 use Rattle.list.proofs.put_file.Given as goal
 
-abbrev pub invariant-loop-length : goal.invariant-loop-length
-invariant-loop-length l = l.place ≤ length l.file
+abbrev pub invariant-loop-extent : goal.invariant-loop-extent
+invariant-loop-extent l = l.place ≤ length l.file
 
-abbrev pub decreases-loop-length : goal.decreases-loop-length
-decreases-loop-length l = length l.file - l.place
+abbrev pub decreases-loop-extent : goal.decreases-loop-extent
+decreases-loop-extent l = length l.file - l.place

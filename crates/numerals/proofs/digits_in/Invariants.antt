@@ -1,5 +1,5 @@
 -- `numerals::digits_in` says the number of its digits: those that were read continue with those that are left, and as many digits as were read say a number below that power of ten.
-use Prim.Native.Nat.{ℕ, ◌≤◌, ◌<◌, ◌-◌, ◌*◌, zero, suc}
+use Prim.Native.Nat.{ℕ, ◌≤◌, ◌<◌, ◌*◌, zero, suc}
 use mathlib.Core.Path.{◌≡◌}
 use lib.ListN.{length, drop}
 use Rattle.numerals.specs.Decimal.{continued}
@@ -10,8 +10,5 @@ unfoldable pub ten : ℕ → ℕ
 ten zero = 1
 ten (suc n) = 10 * ten n
 
-abbrev pub invariant-loop-i : goal.invariant-loop-i
-invariant-loop-i l = (l.i ≤ length l.word) × (length l.word ≤ 18) × (l.magnitude < ten l.i) × (continued 0 l.word ≡ continued l.magnitude (drop l.i l.word))
-
-abbrev pub decreases-loop-i : goal.decreases-loop-i
-decreases-loop-i l = length l.word - l.i
+abbrev pub invariant-loop-byte : goal.invariant-loop-byte
+invariant-loop-byte l = (l.byte-index ≤ length l.word) × (length l.word ≤ 18) × (l.magnitude < ten l.byte-index) × (continued 0 l.word ≡ continued l.magnitude (drop l.byte-index l.word))

@@ -30,15 +30,8 @@ plain : (word : List ℕ) (n : ℕ) (says : Bool) → says ≡ false → says �
 unfolding whole
 plain word n says p q h d = rw (to_z_pos w64 n (omega arith), sym q ∙ p) (ap pos d)
 
-pub overflow_sub-result : goal.overflow_sub-result
-overflow_sub-result c = rw (to_z_pos w64 c.digits_in-digits.result.magnitude (omega (arith, c.digits_in-digits.ensures.0))) (turned c.digits_in-digits.result.magnitude c.digits_in-digits.ensures.0)
-
 pub returns-then-begins : goal.returns-then-begins
-returns-then-begins c =
-    let word = c.args.word.now in
-    (λ e. negative word _ c.digits_in-digits.result.magnitude _ c.if-begins.true c.begins.ensures c.part.ensures c.digits_in-digits.ensures.0 (c.digits_in-digits.ensures.1 e))
+returns-then-begins c = negative c.args.word.now _ c.in_ok-magnitude.magnitude _ c.if-begins.true c.begins.ensures c.part.ensures c.in_ok-magnitude.ensures.0 c.in_ok-magnitude.ensures.1
 
 pub returns : goal.returns
-returns c =
-    let word = c.args.word.now in
-    (λ e. plain word c.digits_in-digits-2.result.magnitude _ c.if-begins.false c.begins.ensures c.digits_in-digits-2.ensures.0 (c.digits_in-digits-2.ensures.1 e))
+returns c = plain c.args.word.now c.in_ok-magnitude-2.magnitude _ c.if-begins.false c.begins.ensures c.in_ok-magnitude-2.ensures.0 c.in_ok-magnitude-2.ensures.1

@@ -13,24 +13,23 @@ sixteen : (s : Start) → length s.args.stored ≡ 16
 sixteen s = search rules
 
 pub loop-channel-init : goal.loop-channel-init
-loop-channel-init c = (omega arith, refl, gathered_none _ _ _ _ (replicate 16 Absent))
+loop-channel-init c = (refl, gathered_none _ _ _ _ (replicate 16 Absent))
 
 pub returns-in_default : goal.returns-in_default
 returns-in_default c =
     let x = (goal.at.returns-in_default c).After-place_at-found in
     let l = (goal.at.After-place_at-found x).At-loop-channel in
-    sym (set-failed _ _ _ _ _ _ _ _ (omega (arith, sixteen (goal.at.At-loop-channel l).Start)) l.loop-channel.invariant.2 (sym c.in_default.is ∙ x.place_at-found.ensures))
+    sym (set-failed _ _ _ _ _ _ _ _ (omega (arith, sixteen (goal.at.At-loop-channel l).Start)) l.loop-channel.invariant.1 (sym c.in_default.is ∙ x.place_at-found.ensures))
 
 pub loop-channel-preserved : goal.loop-channel-preserved
 loop-channel-preserved c =
     let x = (goal.at.loop-channel-preserved c).After-place_at-found in
     let l = (goal.at.After-place_at-found x).At-loop-channel in (
-      omega arith,
-      simp length-set l.loop-channel.invariant.1,
-      set_more _ _ _ _ _ _ _ _ (omega (arith, sixteen (goal.at.At-loop-channel l).Start)) l.loop-channel.invariant.2 (omega (arith, l.loop-channel.invariant.1)) (sym c.in-Read.is ∙ x.place_at-found.ensures),
+      simp length-set l.loop-channel.invariant.0,
+      set_more _ _ _ _ _ _ _ _ (omega (arith, sixteen (goal.at.At-loop-channel l).Start)) l.loop-channel.invariant.1 (omega (arith, l.loop-channel.invariant.0)) (sym c.in-Ok.is ∙ x.place_at-found.ensures),
     )
 
 pub returns : goal.returns
 returns c =
     let l = (goal.at.returns c).At-loop-channel in
-    sym (set-end _ _ _ _ _ _ l.loop-channel.channel l.loop-channel.at (omega (arith, sixteen (goal.at.At-loop-channel l).Start)) (omega (arith, l.loop-channel.invariant.1)) l.loop-channel.invariant.2)
+    sym (set-end _ _ _ _ _ _ l.loop-channel.channel l.loop-channel.at (omega (arith, sixteen (goal.at.At-loop-channel l).Start)) (omega (arith, l.loop-channel.invariant.0)) l.loop-channel.invariant.1)

@@ -1,6 +1,5 @@
 -- `point_places::places` meets its contract. The invariant: the point is told by the places so far and what the channels left have from here.
 use mathlib.Core.Path.{◌≡◌}
-use Prim.Native.Nat.{◌≤◌, ◌-◌}
 use lib.ListN.{length}
 use Rattle.channels.specs.Channel.{width_of}
 use Rattle.point_places.proofs.Setting.{SoFar}
@@ -8,7 +7,4 @@ use Rattle.point_places.proofs.places.Given as goal
 
 abbrev pub invariant-loop-channel : goal.invariant-loop-channel
 invariant-loop-channel l =
-    (l.channel ≤ 16) × (length l.places ≡ 16) × SoFar (width_of l.format) l.fn.included l.stored l.bytes l.start l.places l.channel l.at
-
-abbrev pub decreases-loop-channel : goal.decreases-loop-channel
-decreases-loop-channel l = 16 - l.channel
+    (length l.places ≡ 16) × SoFar (width_of l.format) l.fn.included l.stored l.bytes l.start l.places l.channel l.at

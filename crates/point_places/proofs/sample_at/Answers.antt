@@ -26,18 +26,18 @@ pub returns-then-bytes-at-2 : goal.returns-then-bytes-at-2
 unfolding sampled
 returns-then-bytes-at-2 c = sym (ap sampled (wide_short _ _ _ _ c.if-channel-eq-S.false (omega (arith, sized (goal.at.returns-then-bytes-at-2 c).After-width-size))))
 
-pub returns-in-State : goal.returns-in-State
+pub returns-in-Some : goal.returns-in-Some
 unfolding sampled
-returns-in-State c =
-    let m = (goal.at.returns-in-State c).After-state_of in
-    let f = state-found _ (sym m.state_of.ensures ∙ c.in-State.is) in
-    rw (to_z-of_z w32 c.in-State.value (search rules), ← f.1) (sym (ap sampled (switch-ok _ _ _ _ m.if-channel-eq-S.true (omega arith) f.0)))
+returns-in-Some c =
+    let m = (goal.at.returns-in-Some c).After-state_of in
+    let f = state-found _ (sym m.state_of.ensures ∙ c.in-Some.is) in
+    rw (to_z-of_z w32 c.in-Some.value (search rules), ← f.1) (sym (ap sampled (switch-ok _ _ _ _ m.if-channel-eq-S.true (omega arith) f.0)))
 
-pub returns-in-NotAdmitted : goal.returns-in-NotAdmitted
+pub returns-in-None : goal.returns-in-None
 unfolding sampled
-returns-in-NotAdmitted c =
-    let m = (goal.at.returns-in-NotAdmitted c).After-state_of in
-    let f = state-refused _ (sym m.state_of.ensures ∙ c.in-NotAdmitted.is) in
+returns-in-None c =
+    let m = (goal.at.returns-in-None c).After-state_of in
+    let f = state-refused _ (sym m.state_of.ensures ∙ c.in-None.is) in
     sym (ap sampled (switch-bad _ _ _ _ m.if-channel-eq-S.true (omega arith) f))
 
 pub returns-else-bytes-at-2 : goal.returns-else-bytes-at-2

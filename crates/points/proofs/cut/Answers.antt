@@ -9,12 +9,12 @@ use Rattle.points.proofs.cut.Goals as goal
 pub returns-then-bytes-start : goal.returns-then-bytes-start
 returns-then-bytes-start c width h = sym (switched-short _ _ width _ (omega arith))
 
-pub returns-in-State : goal.returns-in-State
-returns-in-State c width h =
-    let f = state-found _ (sym c.state_of.ensures ∙ c.in-State.is) in
+pub returns-in-Some : goal.returns-in-Some
+returns-in-Some c width h =
+    let f = state-found _ (sym c.state_of.ensures ∙ c.in-Some.is) in
     sym (switched-ends _ _ width _ (omega arith) f.0 ∙ ends-short _ _ width h)
 
-pub returns-in-NotAdmitted : goal.returns-in-NotAdmitted
-returns-in-NotAdmitted c width h =
-    let f = state-refused _ (sym c.state_of.ensures ∙ c.in-NotAdmitted.is) in
+pub returns-in-None : goal.returns-in-None
+returns-in-None c width h =
+    let f = state-refused _ (sym c.state_of.ensures ∙ c.in-None.is) in
     sym (switched-bad _ _ width _ (omega arith) f)

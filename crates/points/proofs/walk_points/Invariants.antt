@@ -1,7 +1,7 @@
 -- `points::walk_points` meets its contract. The invariant: the steps left from the next point end as all of them do from the start.
 use mathlib.Core.Path.{◌≡◌}
 use mathlib.Core.List.{List}
-use Prim.Native.Nat.{ℕ, ◌≤◌, ◌-◌, ◌+◌, ◌*◌}
+use Prim.Native.Nat.{ℕ, ◌-◌, ◌+◌, ◌*◌}
 use Rattle.formats.specs.Told.{repeated}
 use Rattle.points.specs.Parts.{switched}
 use Rattle.points.proofs.walk_points.Given as goal
@@ -10,8 +10,5 @@ use Rattle.points.proofs.walk_points.Given as goal
 abbrev pub Left : List ℕ → (start width offset n i : ℕ) → Type 0
 Left s start width offset n i = repeated (λ p. switched s p width offset) n start ≡ repeated (λ p. switched s p width offset) (n - i) (start + i * width)
 
-abbrev pub invariant-loop-i : goal.invariant-loop-i
-invariant-loop-i l = (l.i ≤ l.whole) × (l.switch ≡ l.start + l.i * l.width + l.offset) × Left l.bytes l.start l.width l.offset l.count l.i
-
-abbrev pub decreases-loop-i : goal.decreases-loop-i
-decreases-loop-i l = l.whole - l.i
+abbrev pub invariant-loop : goal.invariant-loop
+invariant-loop l = (l.switch ≡ l.start + l.counter * l.width + l.offset) × Left l.bytes l.start l.width l.offset l.count l.counter

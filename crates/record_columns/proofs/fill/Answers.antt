@@ -15,7 +15,7 @@ use Rattle.record_columns.proofs.fill.Goals as goal
 use Rattle.record_columns.proofs.fill.Goals.{then-stored-channel, else-stored-channel, After-sample_size-at, After-width-width, At-loop-channel, Start, Then-stored-channel}
 
 pub loop-channel-init : goal.loop-channel-init
-loop-channel-init c = (omega arith, none-gone _ _ _ _ _ _ _ c.requires.1)
+loop-channel-init c = none-gone _ _ _ _ _ _ _ c.requires.1
 
 -- what is known at each turn
 module _ (t : At-loop-channel) where
@@ -49,15 +49,15 @@ module _ (c : Then-stored-channel) where
   k = size (start turn).args.stored
 
   there : AllAt (λ i. i + sample_size 2 turn.loop-channel.channel ≤ length (start turn).args.bytes.now) (width 2 (start turn).args.stored) (start turn).args.count turn.loop-channel.at
-  there = bytes-there _ _ _ _ _ _ _ _ _ _ turn.loop-channel.invariant.1 within c.if-stored-channel.true (start turn).args.order (step_is turn) (stride-is turn) (start turn).requires.0
+  there = bytes-there _ _ _ _ _ _ _ _ _ _ turn.loop-channel.invariant within c.if-stored-channel.true (start turn).args.order (step_is turn) (stride-is turn) (start turn).requires.0
 
   free : AllAt (λ i. i < length turn.loop-channel.values) turn.step-step.result (start turn).args.count turn.loop-channel.from
-  free = places-there _ _ _ _ _ _ _ _ _ _ turn.loop-channel.invariant.1 within c.if-stored-channel.true (start turn).args.order (step_is turn) (stride-is turn) (start turn).requires.0
+  free = places-there _ _ _ _ _ _ _ _ _ _ turn.loop-channel.invariant within c.if-stored-channel.true (start turn).args.order (step_is turn) (stride-is turn) (start turn).requires.0
 
   steps : (0 < turn.step-step.result) × (turn.step-step.result ≤ 16)
   steps =
       rw (step_is turn)
-      (step-within k (some _ _ _ _ _ _ _ _ _ _ turn.loop-channel.invariant.1 within c.if-stored-channel.true (start turn).args.order (step_is turn) (stride-is turn) (start turn).requires.0) (omega (arith, turn.size.ensures)) (start turn).args.order)
+      (step-within k (some _ _ _ _ _ _ _ _ _ _ turn.loop-channel.invariant within c.if-stored-channel.true (start turn).args.order (step_is turn) (stride-is turn) (start turn).requires.0) (omega (arith, turn.size.ensures)) (start turn).args.order)
 
 pub fill_channel-requires : goal.fill_channel-requires
 fill_channel-requires c =
@@ -76,18 +76,15 @@ pub overflow_add-at : goal.overflow_add-at
 overflow_add-at c =
     let h = (goal.at.overflow_add-at c).Then-stored-channel in
     let t = turn h in
-    let z = place-within _ _ _ _ _ _ _ _ _ _ t.loop-channel.invariant.1 (within h) h.if-stored-channel.true (start t).args.order (step_is t) (stride-is t) (start t).requires.0 in
+    let z = place-within _ _ _ _ _ _ _ _ _ _ t.loop-channel.invariant (within h) h.if-stored-channel.true (start t).args.order (step_is t) (stride-is t) (start t).requires.0 in
     record { fits = omega (arith, z, wide t, (measured t).width-width.ensures.1, size_is c, (start t).well_formed.0.1) }
 
 pub overflow_add-from : goal.overflow_add-from
 overflow_add-from c =
     let h = (goal.at.overflow_add-from c).Then-stored-channel in
     let t = turn h in
-    let z = next-within _ _ _ _ _ _ _ _ _ _ t.loop-channel.invariant.1 (within h) h.if-stored-channel.true (start t).args.order (step_is t) (stride-is t) (start t).requires.0 in
-    record { fits = omega (arith, z, t.size.ensures, t.loop-channel.invariant.1.many, (start t).requires.1, (start t).well_formed.1) }
-
-pub loop-channel-smaller : goal.loop-channel-smaller
-loop-channel-smaller c = omega arith
+    let z = next-within _ _ _ _ _ _ _ _ _ _ t.loop-channel.invariant (within h) h.if-stored-channel.true (start t).args.order (step_is t) (stride-is t) (start t).requires.0 in
+    record { fits = omega (arith, z, t.size.ensures, t.loop-channel.invariant.many, (start t).requires.1, (start t).well_formed.1) }
 
 pub loop-channel-preserved : goal.loop-channel-preserved
 loop-channel-preserved c =
@@ -96,17 +93,15 @@ loop-channel-preserved c =
       | then-stored-channel w ↦
           let z : w.sample_size-at.result ≡ sample_size 2 t.loop-channel.channel = size_of t.loop-channel.channel w.sample_size-at.ensures in
           rw (w.values-is, w.at-is, w.from-is) (
-            omega arith,
-            rw z
-                (gone-next _ _ _ _ _ _ _ _ _ _ t.loop-channel.invariant.1 (omega (arith, sixteen t)) w.if-stored-channel.true (start t).args.order (step_is t) (stride-is t) (start t).requires.0 _ (rw (wide t) at w.fill_channel.ensures)),
-          )
-      | else-stored-channel w ↦ rw (w.values-is, w.at-is, w.from-is) (omega arith, gone-past _ _ _ _ _ _ _ _ _ _ t.loop-channel.invariant.1 (omega (arith, sixteen t)) w.if-stored-channel.false)
+          rw z
+          (gone-next _ _ _ _ _ _ _ _ _ _ t.loop-channel.invariant (omega (arith, sixteen t)) w.if-stored-channel.true (start t).args.order (step_is t) (stride-is t) (start t).requires.0 _ (rw (wide t) at w.fill_channel.ensures)))
+      | else-stored-channel w ↦ rw (w.values-is, w.at-is, w.from-is) (gone-past _ _ _ _ _ _ _ _ _ _ t.loop-channel.invariant (omega (arith, sixteen t)) w.if-stored-channel.false)
     ]
 
 pub shape_of-values : goal.shape_of-values
-shape_of-values c = let t = (goal.at.shape_of-values c).At-loop-channel in t.loop-channel.invariant.1.many ∙ sym (start t).requires.1
+shape_of-values c = let t = (goal.at.shape_of-values c).At-loop-channel in t.loop-channel.invariant.many ∙ sym (start t).requires.1
 
 pub returns : goal.returns
 returns c =
     let t = (goal.at.returns c).At-loop-channel in
-    all-filled _ _ _ _ _ _ _ _ _ _ t.loop-channel.invariant.1 (omega (arith, sixteen t)) (start t).args.order (step_is t) (stride-is t) (start t).requires.0
+    all-filled _ _ _ _ _ _ _ _ _ _ t.loop-channel.invariant (omega (arith, sixteen t)) (start t).args.order (step_is t) (stride-is t) (start t).requires.0

@@ -1,11 +1,7 @@
 -- `record_columns::fill` meets its contract. The invariant: the numbers of the stored channels that are gone through stand where they belong.
-use Prim.Native.Nat.{◌-◌, ◌≤◌}
 use Rattle.record_columns.proofs.Filling.{Gone}
 use Rattle.record_columns.proofs.fill.Given as goal
 
 abbrev pub invariant-loop-channel : goal.invariant-loop-channel
 invariant-loop-channel l =
-    (l.channel ≤ 16) × Gone l.bytes l.start l.stored l.count l.step l.stride l.channel l.at l.from l.values
-
-abbrev pub decreases-loop-channel : goal.decreases-loop-channel
-decreases-loop-channel l = 16 - l.channel
+    Gone l.bytes l.start l.stored l.count l.step l.stride l.channel l.at l.from l.values

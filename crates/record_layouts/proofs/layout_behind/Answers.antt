@@ -1,25 +1,23 @@
 -- `record_layouts::layout_behind` meets its contract: each part is looked for where the one before it ended well.
-use mathlib.Core.Path.{sym, ap, ◌∙◌}
-use Rattle.record_layouts.specs.Layout.{no_layout, behind, layout_behind}
+use Rattle.std.specs.Prelude.{Err}
+use borrow.Author.Rules.{rules}
+use mathlib.Core.Path.{◌≡◌, sym, ◌∙◌}
+use Rattle.formats.specs.Told.{then_told}
+use Rattle.record_layouts.specs.Layout.{layout_behind}
 use Rattle.record_layouts.proofs.layout_behind.Goals as goal
 
-pub returns-in_default : goal.returns-in_default
-unfolding layout_behind behind
-returns-in_default c = c.no_layout.ensures ∙ ap no_layout c.in_default.is ∙ sym (rw c.in_default.is)
+pub returns-in_err-extension : goal.returns-in_err-extension
+unfolding layout_behind then_told
+returns-in_err-extension c =
+    let gone : c.from_residual.result ≡ Err c.in_err-extension.field-0.0 = search rules in
+    gone ∙ sym (rw (sym c.judge.ensures ∙ c.in_err-extension.was))
 
-pub returns-in_default-passed : goal.returns-in_default-passed
-unfolding layout_behind behind
-returns-in_default-passed c =
-    c.no_layout-in_default-passed.ensures ∙ ap no_layout c.in_default-passed.is ∙ sym (rw (c.in-Done.is, sym c.judge-passed.ensures ∙ c.in_default-passed.is))
-
-pub returns-in_default-ended : goal.returns-in_default-ended
-unfolding layout_behind behind
-returns-in_default-ended c =
-    c.no_layout-in_default-ended.ensures
-    ∙ ap no_layout c.in_default-ended.is
-    ∙ sym (rw (c.in-Done.is, sym c.judge-passed.ensures ∙ c.in-Done-passed.is, sym c.extension_end-ended.ensures ∙ c.in_default-ended.is))
+pub returns-in_err-end : goal.returns-in_err-end
+unfolding layout_behind then_told
+returns-in_err-end c =
+    let gone : c.from_residual-in_err-end.result ≡ Err c.in_err-end.field-0.0 = search rules in
+    gone ∙ sym (rw (sym c.judge.ensures ∙ c.in_ok-extension.was, sym c.extension_end.ensures ∙ c.in_err-end.was))
 
 pub returns : goal.returns
-unfolding layout_behind behind
-returns c =
-    sym (rw (c.in-Done.is, sym c.judge-passed.ensures ∙ c.in-Done-passed.is, sym c.extension_end-ended.ensures ∙ c.in-Done-ended.is) (rw c.in-Done-ended.is))
+unfolding layout_behind then_told
+returns c = sym (rw (sym c.judge.ensures ∙ c.in_ok-extension.was, sym c.extension_end.ensures ∙ c.in_ok-end.was))

@@ -1,5 +1,5 @@
 -- `record_parts::extended` meets its contract: the extended data are the last bytes of the layout, behind their length.
-use mathlib.Core.Path.{◌≡◌}
+use mathlib.Core.Path.{◌≡◌, sym, ◌∙◌}
 use mathlib.Core.List.{List, []}
 use Prim.Native.Nat.{ℕ, ◌+◌, ◌-◌, ◌≤◌}
 use native.Mathlib.Nat.{sub_self}
@@ -14,11 +14,11 @@ use Rattle.record_parts.proofs.extended.Goals.{Then-layout}
 pub returns-in_default : goal.returns-in_default
 returns-in_default c =
     let z = nowhere-lies 0 c.in_default.field-0 in
-    rw (failed-read _ _ c.layout_at-layout.ensures c.in_default.is) (rw (z.0, z.1) (search rules))
+    rw (failed-read _ (sym c.layout_at.ensures ∙ c.in_default.is)) (rw (z.0, z.1) (search rules))
 
 -- the extended data lie behind their length
-lie : (c : Then-layout) → (c.layout_at-layout.result.extension + 2 ≤ c.in-Done.end) × (c.in-Done.end ≤ length c.args.bytes.now)
-lie c = ((extended-lies _ _ c.layout_at-layout.ensures c.in-Done.is c.if-layout.true).2, (ends-within _ _ c.layout_at-layout.ensures c.in-Done.is).1)
+lie : (c : Then-layout) → (c.in-Ok.layout.extension + 2 ≤ c.in-Ok.layout.end) × (c.in-Ok.layout.end ≤ length c.args.bytes.now)
+lie c = ((extended-lies _ (sym c.layout_at.ensures ∙ c.in-Ok.is) c.if-layout.true).2, (ends-within _ (sym c.layout_at.ensures ∙ c.in-Ok.is)).1)
 
 pub overflow_add-start : goal.overflow_add-start
 overflow_add-start c = let z = lie (goal.at.overflow_add-start c).Then-layout in omega arith
@@ -33,11 +33,11 @@ pub slice_bounds-result-end-then-layout : goal.slice_bounds-result-end-then-layo
 slice_bounds-result-end-then-layout c = (lie (goal.at.slice_bounds-result-end-then-layout c).Then-layout).1
 
 pub slice_bounds-result-end-else-layout : goal.slice_bounds-result-end-else-layout
-slice_bounds-result-end-else-layout c = omega (arith, (ends-within _ _ c.layout_at-layout.ensures c.in-Done.is).1)
+slice_bounds-result-end-else-layout c = omega (arith, (ends-within _ (sym c.layout_at.ensures ∙ c.in-Ok.is)).1)
 
 pub returns-then-layout : goal.returns-then-layout
 returns-then-layout c =
-    let z = extended-lies _ _ c.layout_at-layout.ensures c.in-Done.is c.if-layout.true in
+    let z = extended-lies _ (sym c.layout_at.ensures ∙ c.in-Ok.is) c.if-layout.true in
     rw (z.0, z.1) (search rules)
 
 -- from a place to itself there is nothing
@@ -46,5 +46,5 @@ none-taken n l = simp sub_self
 
 pub returns-else-layout : goal.returns-else-layout
 returns-else-layout c =
-    let z = extended-empty _ _ c.layout_at-layout.ensures c.in-Done.is c.if-layout.false in
+    let z = extended-empty _ (sym c.layout_at.ensures ∙ c.in-Ok.is) c.if-layout.false in
     rw (z.0, z.1) (search (rules, none-taken))

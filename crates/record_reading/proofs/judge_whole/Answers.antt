@@ -8,7 +8,7 @@ returns-in_default c = stays-refused _ _ _ c.judge-front.ensures c.in_default.is
 
 pub returns-then-length-bytes : goal.returns-then-length-bytes
 returns-then-length-bytes c =
-    c.unjudged.ensures ∙ left_over _ _ _ c.judge-front.ensures c.in-Record.is c.if-length-bytes.true
+    c.unjudged.ensures ∙ left_over _ _ _ c.judge-front.ensures c.in-Ok.is c.if-length-bytes.true
 
 pub returns : goal.returns
-returns c = all_of _ _ _ c.judge-front.ensures c.in-Record.is c.if-length-bytes.false
+returns c = all_of _ _ _ c.judge-front.ensures c.in-Ok.is c.if-length-bytes.false

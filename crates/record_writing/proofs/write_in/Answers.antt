@@ -1,4 +1,6 @@
 -- `record_writing::write_in` meets its contract: how the description was put aside decides whether the record is written.
+use Rattle.std.specs.Prelude.{Err}
+use borrow.Author.Rules.{rules}
 use mathlib.Core.Path.{◌≡◌, ◌∙◌}
 use Prim.Native.Nat.{◌≤◌}
 use lib.ListN.{replicate, length}
@@ -25,22 +27,23 @@ module _ (m : After-put) where
   fits = description-size 2 start.args.description
 
 pub slice_bounds-described-end : goal.slice_bounds-described-end
-slice_bounds-described-end c = let m = (goal.at.slice_bounds-described-end c).After-put in (aside-done Full _ _ _ _ (aside m) (fits m) c.in-Done.is).1
+slice_bounds-described-end c = let m = (goal.at.slice_bounds-described-end c).After-put in (aside-done Full _ _ _ _ (aside m) (fits m) c.in_ok-end.was).1
 
 pub write_described-requires : goal.write_described-requires
 write_described-requires c =
     let m = (goal.at.write_described-requires c).After-put in
-    rw (aside-done Full _ _ _ _ (aside m) (fits m) c.in-Done.is).2 (fits m)
+    rw (aside-done Full _ _ _ _ (aside m) (fits m) c.in_ok-end.was).2 (fits m)
 
-pub returns-in-Done : goal.returns-in-Done
-returns-in-Done c =
-    let w = (goal.at.returns-in-Done c).After-write_described in
+pub returns : goal.returns
+returns c =
+    let w = (goal.at.returns c).After-write_described in
     let m = (goal.at.After-write_described w).After-put in
-    let a = aside-done Full _ _ _ _ (aside m) (fits m) w.in-Done.is in
+    let a = aside-done Full _ _ _ _ (aside m) (fits m) w.in_ok-end.was in
     w.write_described.ensures ∙ described-written _ _ _ _ _ _ _ a.0 a.2 w.stored_channels-stored.ensures
 
-pub returns-in-Refused : goal.returns-in-Refused
-returns-in-Refused c =
-    let m = (goal.at.returns-in-Refused c).After-put in
+pub returns-in_err-end : goal.returns-in_err-end
+returns-in_err-end c =
+    let m = (goal.at.returns-in_err-end c).After-put in
     let a = (start m).args in
-    refused-written a.order a.description a.count a.values.now a.wanted a.extended.now a.out.now (aside-refused Full _ _ _ _ (aside m) (fits m) c.in-Refused.is)
+    let gone : c.from_residual.result ≡ Err c.in_err-end.field-0.0 = search rules in
+    rw gone (refused-written a.order a.description a.count a.values.now a.wanted a.extended.now a.out.now (aside-refused Full _ _ _ _ (aside m) (fits m) c.in_err-end.was))

@@ -1,4 +1,6 @@
 -- `template_writing::write` meets its contract: whether a description is wanted, and how it was put aside, decides whether the template is written.
+use Rattle.std.specs.Prelude.{Err}
+use borrow.Author.Rules.{rules}
 use mathlib.Core.Path.{◌≡◌, ap, ◌∙◌}
 use mathlib.Core.Bool.{true}
 use Prim.Native.Nat.{◌≤◌}
@@ -34,22 +36,23 @@ module _ (m : After-put) where
   fits = description-size 1 start.args.description
 
 pub slice_bounds-bytes-end : goal.slice_bounds-bytes-end
-slice_bounds-bytes-end c = let m = (goal.at.slice_bounds-bytes-end c).After-put in (aside-done Compact _ _ _ _ (aside m) (fits m) c.in-Done.is).1
+slice_bounds-bytes-end c = let m = (goal.at.slice_bounds-bytes-end c).After-put in (aside-done Compact _ _ _ _ (aside m) (fits m) c.in_ok-end.was).1
 
-pub write_fields-requires-in-Done : goal.write_fields-requires-in-Done
-write_fields-requires-in-Done c =
-    let m = (goal.at.write_fields-requires-in-Done c).After-put in
-    omega (arith, fits m, ap length (aside-done Compact _ _ _ _ (aside m) (fits m) c.in-Done.is).2)
+pub write_fields-requires-2 : goal.write_fields-requires-2
+write_fields-requires-2 c =
+    let m = (goal.at.write_fields-requires-2 c).After-put in
+    omega (arith, fits m, ap length (aside-done Compact _ _ _ _ (aside m) (fits m) c.in_ok-end.was).2)
 
-pub returns-in-Done : goal.returns-in-Done
-returns-in-Done c =
-    let m = (goal.at.returns-in-Done c).After-put in
+pub returns : goal.returns
+returns c =
+    let m = (goal.at.returns c).After-put in
     let a = (start m).args in
-    let f = aside-done Compact _ _ _ _ (aside m) (fits m) c.in-Done.is in
-    c.write_fields-in-Done.ensures ∙ passed-written a.described a.description a.limited a.maximum a.out.now (is-wanted m) _ f.2 f.0
+    let f = aside-done Compact _ _ _ _ (aside m) (fits m) c.in_ok-end.was in
+    c.write_fields-2.ensures ∙ passed-written a.described a.description a.limited a.maximum a.out.now (is-wanted m) _ f.2 f.0
 
-pub returns-in-Refused : goal.returns-in-Refused
-returns-in-Refused c =
-    let m = (goal.at.returns-in-Refused c).After-put in
+pub returns-in_err-end : goal.returns-in_err-end
+returns-in_err-end c =
+    let m = (goal.at.returns-in_err-end c).After-put in
     let a = (start m).args in
-    refused-written a.described a.description a.limited a.maximum a.out.now (is-wanted m) (aside-refused Compact _ _ _ _ (aside m) (fits m) c.in-Refused.is)
+    let gone : c.from_residual.result ≡ Err c.in_err-end.field-0.0 = search rules in
+    rw gone (refused-written a.described a.description a.limited a.maximum a.out.now (is-wanted m) (aside-refused Compact _ _ _ _ (aside m) (fits m) c.in_err-end.was))

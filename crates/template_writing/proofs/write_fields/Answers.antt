@@ -1,4 +1,5 @@
 -- `template_writing::write_fields` meets its contract: the two tests are the definition's, and no sum is too large.
+use Rattle.std.specs.Prelude.{Ok}
 use mathlib.Core.Path.{◌≡◌, sym, ap₂, ◌∙◌}
 use mathlib.Core.Bool.{false}
 use mathlib.Core.List.{List}
@@ -8,7 +9,6 @@ use native.Mathlib.Omega.{arith}
 use borrow.Author.Tests.{le-leb, lt-leb}
 use lib.ListN.{length, length-append}
 use Rattle.formats.specs.Lent.{writing}
-use Rattle.template_writing.specs.declared.Written.TheVariants.{Done}
 use Rattle.templates.specs.Template.{encode_limited}
 use Rattle.refusals.specs.Stages.{require}
 use Rattle.template_writing.specs.Writing.{put_where, exceeds, in_room, described_bytes, template_bytes, write_fields}
@@ -59,4 +59,4 @@ returns c =
     let out = (start m).args.out.now in
     let room : length (whole m) ≤ length out = omega (arith, size m) in
     rw (small m, le-leb (length (whole m)) (length out) room)
-    (ap₂ (λ n t. writing (Done n) t) (p.put_template-end.ensures.place ∙ zero-add (length (whole m))) (p.put_template-end.ensures.bytes ∙ put_first out (whole m) room))
+    (ap₂ (λ n t. writing (Ok n) t) (p.put_template-end.ensures.place ∙ zero-add (length (whole m))) (p.put_template-end.ensures.bytes ∙ put_first out (whole m) room))

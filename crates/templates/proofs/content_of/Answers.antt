@@ -33,13 +33,13 @@ returns-then-s c =
 
 pub described_by-requires : goal.described_by-requires
 described_by-requires c =
-    let w = end-within c.args.s.now 3 (sym c.end_of.ensures ∙ c.in-At.is) in
+    let w = end-within c.args.s.now 3 (sym c.end_of.ensures ∙ c.in-Some.is) in
     (omega (arith, w.0), w.1)
 
-pub returns-in-At : goal.returns-in-At
-returns-in-At c =
-    c.described_by.ensures ∙ sym (field (goal.at.returns-in-At c).Else-s ∙ content-there c.args.s.now 3 described_by (sym c.end_of.ensures ∙ c.in-At.is))
+pub returns-in-Some : goal.returns-in-Some
+returns-in-Some c =
+    c.described_by.ensures ∙ sym (field (goal.at.returns-in-Some c).Else-s ∙ content-there c.args.s.now 3 described_by (sym c.end_of.ensures ∙ c.in-Some.is))
 
-pub returns-in-Missing : goal.returns-in-Missing
-returns-in-Missing c =
-    c.refused.ensures ∙ sym (field (goal.at.returns-in-Missing c).Else-s ∙ content-missing c.args.s.now 3 described_by (sym c.end_of.ensures ∙ c.in-Missing.is))
+pub returns-in-None : goal.returns-in-None
+returns-in-None c =
+    c.refused.ensures ∙ sym (field (goal.at.returns-in-None c).Else-s ∙ content-missing c.args.s.now 3 described_by (sym c.end_of.ensures ∙ c.in-None.is))

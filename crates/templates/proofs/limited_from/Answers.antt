@@ -28,18 +28,18 @@ returns-then-s-at-2 c =
 pub limited_by-requires : goal.limited_by-requires
 limited_by-requires c =
     let a = c.args in
-    let w = end-within a.s.now (a.at + 1) (sym c.end_of.ensures ∙ c.in-At.is) in
+    let w = end-within a.s.now (a.at + 1) (sym c.end_of.ensures ∙ c.in-Some.is) in
     (omega (arith, w.0), w.1)
 
-pub returns-in-At : goal.returns-in-At
-returns-in-At c =
+pub returns-in-Some : goal.returns-in-Some
+returns-in-Some c =
     let a = c.args in
     let z : a.at + 1 + 1 ≡ a.at + 2 = omega arith in
     c.limited_by.ensures
-    ∙ ap limit_of (sym (field (goal.at.returns-in-At c).Else-s-at-2 ∙ rw z at (content-there a.s.now (a.at + 1) (limited_by false (nothing Compact)) (sym c.end_of.ensures ∙ c.in-At.is))))
+    ∙ ap limit_of (sym (field (goal.at.returns-in-Some c).Else-s-at-2 ∙ rw z at (content-there a.s.now (a.at + 1) (limited_by false (nothing Compact)) (sym c.end_of.ensures ∙ c.in-Some.is))))
 
-pub returns-in-Missing : goal.returns-in-Missing
-returns-in-Missing c =
+pub returns-in-None : goal.returns-in-None
+returns-in-None c =
     let a = c.args in
-    c.no_limit-in-Missing.ensures
-    ∙ ap limit_of (sym (field (goal.at.returns-in-Missing c).Else-s-at-2 ∙ content-missing a.s.now (a.at + 1) (limited_by false (nothing Compact)) (sym c.end_of.ensures ∙ c.in-Missing.is)))
+    c.no_limit-in-None.ensures
+    ∙ ap limit_of (sym (field (goal.at.returns-in-None c).Else-s-at-2 ∙ content-missing a.s.now (a.at + 1) (limited_by false (nothing Compact)) (sym c.end_of.ensures ∙ c.in-None.is)))

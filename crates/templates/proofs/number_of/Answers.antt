@@ -8,43 +8,31 @@ use Rattle.formats.specs.Number.{value}
 use Rattle.templates.specs.EncodedLaws.{at-most-three}
 use Rattle.templates.proofs.Parts.{room-for-more}
 use Rattle.templates.proofs.number_of.Goals as goal
-use Rattle.templates.proofs.number_of.Goals.{After-shared_slice_known-1, At-loop-i}
+use Rattle.templates.proofs.number_of.Goals.{In-loop-byte}
 
 -- what is read so far
-small : (c : After-shared_slice_known-1) → c.loop-i.number < 65536
+small : (c : In-loop-byte) → c.loop-byte.number < 65536
 small c =
-    let l = (goal.at.After-shared_slice_known-1 c).At-loop-i in
-    let s = l.args.content.now in
-    rw l.loop-i.invariant.1 (room-for-more s (λ i. (c.shared_slice_known-1.given i).fits) l.loop-i.i (omega (arith, at-most-three s l.requires)))
+    let s = c.args.content.now in
+    rw c.loop-byte.invariant (room-for-more s (λ i. (c.type_inv.content i).fits) c.loop-byte.byte-index (omega (arith, at-most-three s c.requires, c.loop-byte-test.true)))
 
-pub loop-i-init : goal.loop-i-init
+pub loop-byte-init : goal.loop-byte-init
 unfolding value
-loop-i-init c = (omega arith, refl)
-
-pub bounds-content-i : goal.bounds-content-i
-bounds-content-i c = omega arith
-
-pub overflow_cast-byte : goal.overflow_cast-byte
-overflow_cast-byte c = omega (arith, c.shared_slice_known-1.given c.loop-i.i)
+loop-byte-init c = refl
 
 pub overflow_mul-number : goal.overflow_mul-number
-overflow_mul-number c = omega (arith, small c)
+overflow_mul-number c = record { fits = omega (arith, small c) }
 
 pub overflow_add-number : goal.overflow_add-number
-overflow_add-number c = omega (arith, small c, c.shared_slice_known-1.given c.loop-i.i)
+overflow_add-number c =
+    let b = (c.type_inv.content c.loop-byte.byte-index).fits in record { fits = omega (arith, small (goal.at.overflow_add-number c).In-loop-byte, c.from.ensures, b) }
 
-pub overflow_add-i : goal.overflow_add-i
-overflow_add-i c = omega arith
-
-pub loop-i-smaller : goal.loop-i-smaller
-loop-i-smaller c = omega arith
-
-pub loop-i-preserved : goal.loop-i-preserved
+pub loop-byte-preserved : goal.loop-byte-preserved
 unfolding value
-loop-i-preserved c = let l = c.loop-i in (omega arith, rw (add-one l.i, l.invariant.1))
+loop-byte-preserved c = let l = c.loop-byte in rw (c.from.ensures, add-one l.byte-index, l.invariant)
 
 pub returns : goal.returns
 returns c =
-    let l = c.loop-i in
-    let e : l.i ≡ length c.args.content.now = omega arith in
-    l.invariant.1 ∙ rw e
+    let l = c.loop-byte in
+    let e : l.byte-index ≡ length c.args.content.now = omega arith in
+    l.invariant ∙ rw e

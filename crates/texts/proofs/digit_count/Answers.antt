@@ -1,43 +1,41 @@
--- `texts::digit_count` meets its contract. The invariant: the limit is the first number with more digits than are counted, and counting goes on from there.
+-- `texts::digit_count` meets its contract. The invariant: the limit is the first number with as many digits as the next count, and counting goes on from there.
 use mathlib.Core.Path.{◌≡◌, refl, sym, ◌∙◌}
-use Prim.Native.Nat.{ℕ, ◌-◌, ◌^◌, ◌≤◌, ◌<◌}
-use native.Mathlib.Nat.{pow-le-pow_right}
-use native.Mathlib.Numerals.{unary_clauses, add-one}
+use Prim.Native.Nat.{ℕ, zero, suc, ◌+◌, ◌-◌, ◌*◌, ◌^◌, ◌≤◌, ◌<◌}
+use native.Mathlib.Nat.{pow-le-pow_right, pow-suc}
+use native.Mathlib.Numerals.{add-one}
 use native.Mathlib.Omega.{arith}
-use Rattle.texts.specs.Digits.{count_from, digit_count}
-use Rattle.texts.specs.JoiningLaws.{count_next, count-here, count-twenty}
+use Rattle.texts.specs.Digits.{count_from}
+use Rattle.texts.specs.JoiningLaws.{count_next, count-here}
 use Rattle.texts.proofs.digit_count.Goals as goal
-use Rattle.texts.proofs.digit_count.Goals.{At-loop-limit}
 
 -- nineteen digits fit into 64 bits
-nineteen : (count limit : ℕ) → count < 19 → limit ≡ 10 ^ count → limit ≤ 10 ^ 18
-nineteen count limit h e = rw e (pow-le-pow_right {n = 10} (omega arith) {i = count} {j = 18} (omega (arith, h)))
+fits : (count limit : ℕ) → count < 20 → limit ≡ 10 ^ (count - 1) → limit ≤ 10 ^ 18
+fits count limit h e = rw e (pow-le-pow_right {n = 10} (omega arith) {i = count - 1} {j = 18} (omega arith))
 
--- nineteen are too few
-twenty : (count limit number : ℕ) → count ≡ 19 → limit ≡ 10 ^ count → limit ≤ number → digit_count number ≡ count_from (20 - count) count number → 20 ≡ digit_count number
-twenty count limit number e g h q = let k : 10 ^ 19 ≤ number = rw (g, e) at h in sym (rw e at q ∙ count-twenty number k)
-
-pub loop-limit-init : goal.loop-limit-init
-loop-limit-init c = (omega arith, omega arith, refl, refl)
-
-pub returns-then-count-eq19 : goal.returns-then-count-eq19
-returns-then-count-eq19 c =
-    let l = (goal.at.returns-then-count-eq19 c).At-loop-limit in
-    (twenty _ _ _ c.if-count-eq19.true l.loop-limit.invariant.2 (omega arith) l.loop-limit.invariant.3, omega arith, omega arith)
+tenfold : (count limit : ℕ) → 0 < count → limit ≡ 10 ^ (count - 1) → limit * 10 ≡ 10 ^ count
+tenfold zero limit h e = absurd (omega arith)
+tenfold (suc count) limit h e = let z : suc count - 1 ≡ count = omega arith in rw (rw z at e, pow-suc) refl
 
 pub overflow_mul-limit : goal.overflow_mul-limit
-overflow_mul-limit c = record { fits = omega (arith, nineteen _ _ (omega arith) c.loop-limit.invariant.2) }
+overflow_mul-limit c = record { fits = omega (arith, fits c.loop-count.count _ (omega arith) c.loop-count.invariant.0) }
 
-pub loop-limit-preserved : goal.loop-limit-preserved
-loop-limit-preserved c =
-    let l = (goal.at.loop-limit-preserved c).At-loop-limit in (
-      omega arith,
-      omega arith,
-      simp unary_clauses (rw l.loop-limit.invariant.2 refl),
-      rw add-one (l.loop-limit.invariant.3 ∙ count_next l.loop-limit.count _ (omega arith) (omega arith)),
-    )
+pub returns-then-number-limit : goal.returns-then-number-limit
+returns-then-number-limit c =
+    let l = c.loop-count in
+    let ten = tenfold l.count l.limit (omega arith) l.invariant.0 in
+    let below = rw ten at c.if-number-limit.true in
+    (sym (l.invariant.1 ∙ count-here l.count _ (omega arith) below), omega arith, omega arith)
+
+pub loop-count-preserved : goal.loop-count-preserved
+loop-count-preserved c =
+    let l = c.loop-count in
+    let ten = tenfold l.count l.limit (omega arith) l.invariant.0 in
+    let z : l.count + 1 - 1 ≡ l.count = omega arith in
+    let above = rw ten at c.if-number-limit.false in
+    (rw z ten, rw add-one (l.invariant.1 ∙ count_next l.count _ (omega arith) above))
 
 pub returns : goal.returns
+unfolding count_from
 returns c =
-    let l = (goal.at.returns c).At-loop-limit in
-    (sym (l.loop-limit.invariant.3 ∙ count-here l.loop-limit.count _ (omega arith) (omega arith)), omega arith, omega arith)
+    let z : c.loop-count.count ≡ 20 = omega arith in
+    (sym (rw z at c.loop-count.invariant.1), omega arith, omega arith)

@@ -11,8 +11,8 @@ use Rattle.turning.proofs.byte_of.Goals.{After-stored_sample}
 found : (c : After-stored_sample) → stored_sample 1 c.args.channel c.args.value ≡ c.stored_sample.result
 found c = sym (c.stored_sample.ensures ∙ rw (to_z-of_z w32 c.args.value c.ranges.value))
 
-pub returns-in-Number : goal.returns-in-Number
-returns-in-Number c = sym (sample-byte _ _ (found (goal.at.returns-in-Number c).After-stored_sample ∙ c.in-Number.is))
+pub returns-in-Some : goal.returns-in-Some
+returns-in-Some c = sym (sample-byte _ _ (found (goal.at.returns-in-Some c).After-stored_sample ∙ c.in-Some.is))
 
-pub returns-in-Outside : goal.returns-in-Outside
-returns-in-Outside c = sym (sample-byte _ _ (found (goal.at.returns-in-Outside c).After-stored_sample ∙ c.in-Outside.is))
+pub returns-in-None : goal.returns-in-None
+returns-in-None c = sym (sample-byte _ _ (found (goal.at.returns-in-None c).After-stored_sample ∙ c.in-None.is))

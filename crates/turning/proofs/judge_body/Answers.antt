@@ -1,11 +1,11 @@
 -- `turning::judge_body` meets its contract: each test of the code is a stage of the definition, and the stages that it has none for are passed by every record.
+use Rattle.std.specs.Prelude.{Err}
 use mathlib.Core.Path.{◌≡◌, sym, ap, ◌∙◌}
 use mathlib.Core.List.{List}
 use Prim.Native.Nat.{ℕ}
 use lib.IntN.{ℤ}
 use Rattle.formats.specs.Reader.{ok, read_at, times}
 use Rattle.refusals.specs.Stages.{require, or_else, stages, compactly}
-use Rattle.refusals.specs.declared.Judgement.TheVariants.{Refused}
 use Rattle.points.specs.Points.{point, width}
 use Rattle.orders.specs.Orders.{size, values_of}
 use Rattle.orders.specs.declared.Order.TheVariants.{Point}
@@ -33,12 +33,12 @@ pub returns-then-not-count_fits : goal.returns-then-not-count_fits
 unfolding body_judgement judgement_by stages or_else require
 returns-then-not-count_fits c points end e = rw (fits (goal.at.returns-then-not-count_fits c).After-count_fits ∙ c.if-not-count_fits.true)
 
-pub returns-in-Refused : goal.returns-in-Refused
+pub returns-in-Err : goal.returns-in-Err
 unfolding body_judgement judgement_by stages or_else require compactly
-returns-in-Refused c points end e =
+returns-in-Err c points end e =
     let j = c in
-    let v = (goal.at.returns-in-Refused j).After-judge_points-judged in
-    ap Refused c.in_compact.ensures ∙ sym (rw (fits (goal.at.After-judge_points-judged v).After-count_fits ∙ v.if-not-count_fits.false, judged v points end e ∙ j.in-Refused.is))
+    let v = (goal.at.returns-in-Err j).After-judge_points-judged in
+    ap Err c.in_compact.ensures ∙ sym (rw (fits (goal.at.After-judge_points-judged v).After-count_fits ∙ v.if-not-count_fits.false, judged v points end e ∙ j.in-Err.is))
 
 pub returns : goal.returns
 unfolding body_judgement judgement_by stages or_else require compactly exceeds

@@ -1,4 +1,5 @@
 -- `turning::judge_places` meets its contract. The invariant: of all places is told what is told of those left.
+use Rattle.std.specs.Prelude.{Option}
 use mathlib.Core.Path.{◌≡◌, refl, sym, ◌∙◌}
 use mathlib.Core.List.{List}
 use Prim.Native.Nat.{ℕ, ◌+◌, ◌<◌}
@@ -14,7 +15,6 @@ use Rattle.refusals.specs.declared.Quantity.TheVariants.{Value}
 use Rattle.refusals.specs.declared.Refusal.TheVariants.{OutOfRange}
 use Rattle.channels.specs.declared.Place.{Place}
 use Rattle.channels.specs.declared.Place.TheVariants.{Absent, Number}
-use Rattle.channels.specs.declared.Stored.{Stored}
 use Rattle.points.specs.Points.{fits_sample}
 use Rattle.values.specs.Values.{stored_sample}
 use Rattle.values.proofs.Lent.{fits-number, fits-outside}
@@ -27,7 +27,7 @@ sixteen : (s : Start) → length s.args.places ≡ 16
 sixteen s = s.well_formed.0.1.0.1
 
 pub loop-channel-init : goal.loop-channel-init
-loop-channel-init c = (omega arith, omega arith, refl)
+loop-channel-init c = (omega arith, refl)
 
 -- where the next place holds a number
 module _ (turn : At-loop-channel) where
@@ -45,16 +45,16 @@ module _ (turn : At-loop-channel) where
   judged {v} h e = take-place channel index places (omega (arith, sixteen (goal.at.At-loop-channel turn).Start)) e
 
   -- what is stored for it
-  found : {v : ℤ} → SFits w32 v → {r : Stored} → r ≡ stored_sample 1 channel (to_z w32 (of_z w32 v)) → r ≡ stored_sample 1 channel v
+  found : {v : ℤ} → SFits w32 v → {r : Option ℕ} → r ≡ stored_sample 1 channel (to_z w32 (of_z w32 v)) → r ≡ stored_sample 1 channel v
   found {v} q e = e ∙ rw (to_z-of_z w32 v q)
 
-pub returns-in-Outside : goal.returns-in-Outside
+pub returns-in-None : goal.returns-in-None
 unfolding or_else require
-returns-in-Outside c =
-    let t = (goal.at.returns-in-Outside c).At-loop-channel in
+returns-in-None c =
+    let t = (goal.at.returns-in-None c).At-loop-channel in
     let q : SFits w32 c.in-Number.value = search rules in
-    let f = fits-outside 1 t.loop-channel.channel c.in-Number.value (sym (found t q c.stored_sample-stored.ensures) ∙ c.in-Outside.is) in
-    sym (t.loop-channel.invariant.2 ∙ judged t c.loop-channel-test.true c.in-Number.is ∙ rw f)
+    let f = fits-outside 1 t.loop-channel.channel c.in-Number.value (sym (found t q c.stored_sample-stored.ensures) ∙ c.in-None.is) in
+    sym (t.loop-channel.invariant.1 ∙ judged t c.loop-channel-test.true c.in-Number.is ∙ rw f)
 
 pub overflow_add-index : goal.overflow_add-index
 overflow_add-index c = record { fits = omega (arith, c.requires) }
@@ -67,15 +67,14 @@ loop-channel-preserved c =
       | in-Number+in_default-stored w ↦
           let q : SFits w32 w.in-Number.value = search rules in
           let f = fits-number 1 l.loop-channel.channel w.in-Number.value (sym (found l q w.stored_sample-stored.ensures) ∙ w.in_default-stored.is) in
-          rw w.index-is (omega arith, omega arith, l.loop-channel.invariant.2 ∙ judged l c.loop-channel-test.true w.in-Number.is ∙ rw f)
+          rw w.index-is (omega arith, l.loop-channel.invariant.1 ∙ judged l c.loop-channel-test.true w.in-Number.is ∙ rw f)
       | in_default w ↦ rw w.index-is (
         omega arith,
-        omega arith,
-        l.loop-channel.invariant.2 ∙ pass-place l.loop-channel.channel l.loop-channel.index l.args.places (omega (arith, sixteen (goal.at.At-loop-channel l).Start)) w.in_default.not-Number,
+        l.loop-channel.invariant.1 ∙ pass-place l.loop-channel.channel l.loop-channel.index l.args.places (omega (arith, sixteen (goal.at.At-loop-channel l).Start)) w.in_default.not-Number,
       )
     ]
 
 pub returns : goal.returns
 returns c =
     let l = (goal.at.returns c).At-loop-channel in
-    sym (l.loop-channel.invariant.2 ∙ no_place l.loop-channel.channel l.loop-channel.index l.args.places (omega (arith, sixteen (goal.at.At-loop-channel l).Start)))
+    sym (l.loop-channel.invariant.1 ∙ no_place l.loop-channel.channel l.loop-channel.index l.args.places (omega (arith, sixteen (goal.at.At-loop-channel l).Start)))

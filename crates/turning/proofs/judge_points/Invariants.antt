@@ -1,7 +1,7 @@
 -- `turning::judge_points` meets its contract. The invariant: of all points is told what is told of those left, the first of which stands here.
 use mathlib.Core.Path.{◌≡◌}
 use mathlib.Core.List.{List}
-use Prim.Native.Nat.{ℕ, ◌≤◌, ◌-◌, ◌+◌, ◌*◌}
+use Prim.Native.Nat.{ℕ, ◌≤◌, ◌+◌, ◌*◌}
 use lib.IntN.{ℤ}
 use Rattle.formats.specs.Reader.{ok, read_at, times}
 use Rattle.refusals.specs.Ranges.{first_misfit}
@@ -12,11 +12,8 @@ use Rattle.values.specs.Values.{samples}
 use Rattle.turning.proofs.Judging.{misfit_left}
 use Rattle.turning.proofs.judge_points.Given as goal
 
-abbrev pub invariant-loop-i : goal.invariant-loop-i
-invariant-loop-i l =
-    (l.i ≤ l.count) × (l.at ≡ l.start + l.i * l.width) × (l.from ≡ l.i * l.size) × (l.from ≤ 16 * l.i)
+abbrev pub invariant-loop : goal.invariant-loop
+invariant-loop l =
+    (l.at ≡ l.start + l.counter * l.width) × (l.from ≡ l.counter * l.size) × (l.from ≤ 16 * l.counter)
     × ((points : List (List ℤ)) (end : ℕ) → read_at (times l.count (point 2 l.stored)) l.whole l.start ≡ ok points end
-    → first_misfit (samples 1 l.stored Point l.count (values_of Point (size l.stored) points)) ≡ misfit_left l.stored l.count points l.i)
-
-abbrev pub decreases-loop-i : goal.decreases-loop-i
-decreases-loop-i l = l.count - l.i
+    → first_misfit (samples 1 l.stored Point l.count (values_of Point (size l.stored) points)) ≡ misfit_left l.stored l.count points l.counter)

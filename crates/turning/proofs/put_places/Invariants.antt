@@ -1,5 +1,4 @@
 -- `turning::put_places` meets its contract. The invariant: the bytes of the places that are left are owed.
-use Prim.Native.Nat.{◌≤◌, ◌-◌}
 use lib.ListN.{drop}
 use Rattle.formats.specs.Laid.{Owed}
 use Rattle.turning.specs.Parts.{bytes_in}
@@ -7,7 +6,4 @@ use Rattle.turning.proofs.put_places.Given as goal
 
 abbrev pub invariant-loop-channel : goal.invariant-loop-channel
 invariant-loop-channel l =
-    (l.channel ≤ 16) × Owed l.initial.out l.start (bytes_in 0 l.places) l.out l.at (bytes_in l.channel (drop l.channel l.places))
-
-abbrev pub decreases-loop-channel : goal.decreases-loop-channel
-decreases-loop-channel l = 16 - l.channel
+    Owed l.initial.out l.start (bytes_in 0 l.place-items) l.out l.at (bytes_in l.channel (drop l.channel l.place-items))

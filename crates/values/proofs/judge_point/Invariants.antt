@@ -1,6 +1,5 @@
 -- `values::judge_point` meets its contract. The invariant: of the whole point is told what is told of the numbers left, which are among the values.
 use mathlib.Core.Path.{◌≡◌}
-use Prim.Native.Nat.{◌≤◌, ◌-◌}
 use Rattle.refusals.specs.Ranges.{first_misfit}
 use Rattle.channels.specs.Channel.{width_of}
 use Rattle.points.specs.Points.{channels}
@@ -12,8 +11,5 @@ use Rattle.values.proofs.judge_point.Given as goal
 
 abbrev pub invariant-loop-channel : goal.invariant-loop-channel
 invariant-loop-channel l =
-    (l.channel ≤ 16) × Inside l.values l.stride (many l.stored l.channel) l.index
+    Inside l.values l.stride (many l.stored l.channel) l.index
     × (first_misfit (samples_in (width_of l.format) l.stride (channels l.stored) l.values l.from) ≡ judge_left (width_of l.format) l.stride l.stored l.values l.channel l.index)
-
-abbrev pub decreases-loop-channel : goal.decreases-loop-channel
-decreases-loop-channel l = 16 - l.channel

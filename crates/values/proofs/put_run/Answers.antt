@@ -22,7 +22,7 @@ sixteen : (s : Start) → length s.args.stored.now ≡ 16
 sixteen s = s.requires.0
 
 pub loop-channel-init : goal.loop-channel-init
-loop-channel-init c = (c.requires.4, c.requires.2, owed_all _ _ _)
+loop-channel-init c = (c.requires.2, owed_all _ _ _)
 
 -- the next number is there, and its bytes come next
 module _ (turn : In-loop-channel) where
@@ -47,8 +47,8 @@ module _ (turn : In-loop-channel) where
   within : channel < length stored
   within = omega (arith, sixteen (goal.at.In-loop-channel turn).Start, turn.requires.5)
 
-  taken : get_or stored channel false ≡ true → Taken values d stored channel index within turn.loop-channel.invariant.1
-  taken e = take-inside values d stored channel index within turn.loop-channel.invariant.1 e
+  taken : get_or stored channel false ≡ true → Taken values d stored channel index within turn.loop-channel.invariant.0
+  taken e = take-inside values d stored channel index within turn.loop-channel.invariant.0 e
 
   owed : get_or stored channel false ≡ true → Owed
       turn.args.out.now
@@ -57,7 +57,7 @@ module _ (turn : In-loop-channel) where
       turn.loop-channel.out
       turn.loop-channel.at
       (sample_bytes w channel (get_or values index (pos 0)) ++ bytes_left w d stored values (channel + 1) (index + d))
-  owed e = rw (take-bytes w d stored values channel index within e) at turn.loop-channel.invariant.2
+  owed e = rw (take-bytes w d stored values channel index within e) at turn.loop-channel.invariant.1
 
 -- the value as the machine has it
 read : (t : In-loop-channel) → SFits w32 (get_or (values t) (index t) (pos 0)) → to_z w32 (of_z w32 (get_or (values t) (index t) (pos 0))) ≡ get_or (values t) (index t) (pos 0)
@@ -77,12 +77,6 @@ put_sample-at-requires c =
 pub overflow_add-index : goal.overflow_add-index
 overflow_add-index c = let h = (taken (goal.at.overflow_add-index c).In-loop-channel c.if-stored-channel.true).there in record { fits = omega arith }
 
-pub overflow_add-channel : goal.overflow_add-channel
-overflow_add-channel c = omega arith
-
-pub loop-channel-smaller : goal.loop-channel-smaller
-loop-channel-smaller c = omega arith
-
 pub loop-channel-preserved : goal.loop-channel-preserved
 loop-channel-preserved c =
     let l = (goal.at.loop-channel-preserved c).In-loop-channel in
@@ -92,22 +86,21 @@ loop-channel-preserved c =
           let e = x.if-stored-channel.true in
           let q : SFits w32 (get_or (values l) (index l) (pos 0)) = search rules in
           let laid = rw (read l q) at x.put_sample-at.ensures in
-          rw (x.out-is, x.at-is, x.index-is) (omega arith, (taken l e).rest, owed-next (owed l e) laid)
+          rw (x.out-is, x.at-is, x.index-is) ((taken l e).rest, owed-next (owed l e) laid)
       | else-stored-channel x ↦
           let h : l.loop-channel.channel < length a.stored.now = omega (arith, sixteen (goal.at.In-loop-channel l).Start, l.requires.5) in
           let e = x.if-stored-channel.false in
           rw (x.out-is, x.at-is, x.index-is) (
-            omega arith,
-            pass-inside a.values.now a.stride a.stored.now l.loop-channel.channel l.loop-channel.index h l.loop-channel.invariant.1 e,
-            rw (pass-bytes (width_of a.format) a.stride a.stored.now a.values.now l.loop-channel.channel l.loop-channel.index h e) at l.loop-channel.invariant.2,
+            pass-inside a.values.now a.stride a.stored.now l.loop-channel.channel l.loop-channel.index h l.loop-channel.invariant.0 e,
+            rw (pass-bytes (width_of a.format) a.stride a.stored.now a.values.now l.loop-channel.channel l.loop-channel.index h e) at l.loop-channel.invariant.1,
           )
     ]
 
 pub shape_of-out : goal.shape_of-out
-shape_of-out c = c.loop-channel.invariant.2.kept
+shape_of-out c = c.loop-channel.invariant.1.kept
 
 pub returns : goal.returns
 returns c =
     let l = (goal.at.returns c).At-loop-channel in
-    let e : l.loop-channel.channel ≡ l.args.last = omega (arith, l.loop-channel.invariant.0, c.loop-channel-test.false) in
-    (rw e at l.loop-channel.invariant.1, rw e at l.loop-channel.invariant.2)
+    let e : l.loop-channel.channel ≡ l.args.last = omega (arith, l.requires.4, l.loop-channel.auto.channel-end, c.loop-channel-test.false) in
+    (rw e at l.loop-channel.invariant.0, rw e at l.loop-channel.invariant.1)

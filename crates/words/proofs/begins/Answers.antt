@@ -19,8 +19,8 @@ unfolding begins_with
 some [] mark h = absurd (h refl)
 some (byte ∷ bytes) mark h = refl
 
-pub returns-then-word-eq0 : goal.returns-then-word-eq0
-returns-then-word-eq0 c = none c.args.word.now c.args.mark c.if-word-eq0.true
+pub returns-in-empty : goal.returns-in-empty
+returns-in-empty c = none c.args.word.now c.args.mark (omega arith)
 
-pub returns : goal.returns
-returns c = some c.args.word.now c.args.mark c.if-word-eq0.false
+pub returns-in-len1-up : goal.returns-in-len1-up
+returns-in-len1-up c = some c.args.word.now c.args.mark (λ e. omega arith)

@@ -1,16 +1,16 @@
--- `words::seek` finds the first mark: each turn passes a place that does not hold it.
-use native.Mathlib.Omega.{arith}
-use Rattle.words.proofs.Search.{begun, further, first}
+-- `words::seek` finds the first mark: every place that is passed holds another byte.
+use Rattle.std.proofs.Common.{◌≡◌, ℕ, Some, None, rules, arith}
+use Rattle.std.proofs.lemmas.Iterator.{IsFirst-from_position, YieldsList-from_slice}
+use Rattle.words.proofs.Search.{found, ended}
+use borrow.Author.Tests.{tests}
 use Rattle.words.proofs.seek.Goals as goal
 
-pub loop-at-init : goal.loop-at-init
-loop-at-init c = begun _ _ _
+pub returns-in-Some : goal.returns-in-Some
+returns-in-Some c =
+    let at = IsFirst-from_position _ _ (Some c.in-Some.passed) (λ (byte : ℕ). byte ≡ c.args.mark) (λ (byte : ℕ). byte ≡ c.args.mark → ⊥) c.in-Some.ensures.ran (YieldsList-from_slice c.part-rest.result.now c.iter.ensures.rest) (λ x q k. search (rules, tests)) (λ x q k. search (rules, tests)) in
+    found _ _ _ _ _ _ c.part-rest.ensures at
 
-pub returns-then-text-at : goal.returns-then-text-at
-returns-then-text-at c = first _ _ _ _ _ c.loop-at.invariant (λ h. c.if-text-at.true)
-
-pub loop-at-preserved : goal.loop-at-preserved
-loop-at-preserved c = further _ _ _ _ c.loop-at.invariant c.loop-at-test.true c.if-text-at.false
-
-pub returns : goal.returns
-returns c = first _ _ _ _ _ c.loop-at.invariant (λ h. absurd (omega arith))
+pub returns-in-None : goal.returns-in-None
+returns-in-None c =
+    let all = IsFirst-from_position _ _ None (λ (byte : ℕ). byte ≡ c.args.mark) (λ (byte : ℕ). byte ≡ c.args.mark → ⊥) c.in-None.ensures.ran (YieldsList-from_slice c.part-rest.result.now c.iter.ensures.rest) (λ x q k. search (rules, tests)) (λ x q k. search (rules, tests)) in
+    ended _ _ _ _ _ _ c.part-rest.ensures all (omega arith) (omega arith) (λ h. omega arith)

@@ -1,16 +1,16 @@
--- `words::skip` finds the first place without the mark: each turn passes a place that holds it.
-use native.Mathlib.Omega.{arith}
-use Rattle.words.proofs.Search.{begun, further, first}
+-- `words::skip` finds the first place without the mark: every place that is passed holds it.
+use Rattle.std.proofs.Common.{◌≡◌, ℕ, Some, None, rules, arith}
+use Rattle.std.proofs.lemmas.Iterator.{IsFirst-from_position, YieldsList-from_slice}
+use Rattle.words.proofs.Search.{found, ended}
+use borrow.Author.Tests.{tests}
 use Rattle.words.proofs.skip.Goals as goal
 
-pub loop-place-init : goal.loop-place-init
-loop-place-init c = begun _ _ _
+pub returns-in-Some : goal.returns-in-Some
+returns-in-Some c =
+    let at = IsFirst-from_position _ _ (Some c.in-Some.marks) (λ (byte : ℕ). byte ≡ c.args.mark → ⊥) (λ (byte : ℕ). byte ≡ c.args.mark) c.in-Some.ensures.ran (YieldsList-from_slice c.part-rest.result.now c.iter.ensures.rest) (λ x q k. search (rules, tests)) (λ x q k. search (rules, tests)) in
+    found _ _ _ _ _ _ c.part-rest.ensures at
 
-pub returns-then-text-place : goal.returns-then-text-place
-returns-then-text-place c = first _ _ _ _ _ c.loop-place.invariant (λ h. c.if-text-place.true)
-
-pub loop-place-preserved : goal.loop-place-preserved
-loop-place-preserved c = further _ _ _ _ c.loop-place.invariant c.loop-place-test.true c.if-text-place.false
-
-pub returns : goal.returns
-returns c = first _ _ _ _ _ c.loop-place.invariant (λ h. absurd (omega arith))
+pub returns-in-None : goal.returns-in-None
+returns-in-None c =
+    let all = IsFirst-from_position _ _ None (λ (byte : ℕ). byte ≡ c.args.mark → ⊥) (λ (byte : ℕ). byte ≡ c.args.mark) c.in-None.ensures.ran (YieldsList-from_slice c.part-rest.result.now c.iter.ensures.rest) (λ x q k. search (rules, tests)) (λ x q k. search (rules, tests)) in
+    ended _ _ _ _ _ _ c.part-rest.ensures all (omega arith) (omega arith) (λ h. omega arith)

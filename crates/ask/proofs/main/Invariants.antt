@@ -1,9 +1,0 @@
--- `ask::main` is safe and ends: its turns are counted.
-use Rattle.std.proofs.Common.{◌-◌, ◌≤◌}
-use Rattle.ask.proofs.main.Given as goal
-
-abbrev pub invariant-loop-turns : goal.invariant-loop-turns
-invariant-loop-turns l = l.turns ≤ 18446744073709551615
-
-abbrev pub decreases-loop-turns : goal.decreases-loop-turns
-decreases-loop-turns l = 18446744073709551615 - l.turns

@@ -1,9 +1,0 @@
--- `texts::put_field` meets its contract: a space joins the text, and then the number.
-use mathlib.Core.Path.{ap, ◌∙◌}
-use Rattle.texts.specs.Digits.{joins_number}
-use Rattle.texts.proofs.put_field.Goals as goal
-
-pub returns : goal.returns
-returns c =
-    let a = c.args in
-    c.put_number.ensures ∙ ap (λ t. joins_number t a.number) c.put-used.ensures
