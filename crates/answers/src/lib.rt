@@ -100,20 +100,11 @@ fn with_numbers(word: Word, numbers: Numbers) -> Answer {
     }
 }
 
-// The words that the rooms of the questions begin an answer with.
-pub const WRITTEN: Word = Word::Written;
-
-pub const POINT: Word = Word::Point;
-
-pub const ABSENT: Word = Word::Absent;
-
-pub const BODY: Word = Word::Body;
-
-// A word, and perhaps a number: none where `count` is 0.
-pub fn plain(word: Word, count: usize, number: u64) -> Answer {
-    match count {
-        0 => with_numbers(word, Numbers::None),
-        _ => with_numbers(word, Numbers::One(number)),
+// A word, and perhaps a number.
+pub fn plain(word: Word, number: Option<u64>) -> Answer {
+    match number {
+        Some(number) => with_numbers(word, Numbers::One(number)),
+        None => with_numbers(word, Numbers::None),
     }
 }
 

@@ -3,6 +3,7 @@
 
 ghost use Rattle.std.specs.Prelude.{◌≤◌, IfOk};
 
+use answers::Word;
 use bodies::Refused;
 use fields::Wanted;
 use refusals::Refusal;
@@ -92,7 +93,7 @@ fn judge(text: &mut Text, template: &[u8], body: &[u8]) {
     let verdict = judged.verdict;
     match verdict {
         Ok(count) => {
-            answers::put(text, answers::plain(answers::BODY, 1, count as u64));
+            answers::put(text, answers::plain(Word::Body, Some(count as u64)));
             sayings::put_description(text, judged.description)
         }
         Err(Refused::Template(refusal)) => template_refused(text, refusal),
@@ -104,7 +105,7 @@ fn show(text: &mut Text, template: &[u8], body: &[u8], index: usize) {
     let pointed = bodies::judge_point(template, body, index);
     match pointed {
         Ok(()) => {
-            answers::put(text, answers::plain(answers::POINT, 0, 0));
+            answers::put(text, answers::plain(Word::Point, None));
             answers::put_places(text, bodies::point(template, body, index))
         }
         Err(Refused::Template(refusal)) => template_refused(text, refusal),
@@ -171,7 +172,7 @@ fn write_body(text: &mut Text, template: &[u8], wanted: Wanted, values: &[i32], 
 
 fn put_written(text: &mut Text, written: Result<usize, Refused>) {
     match written {
-        Ok(length) => { answers::put(text, answers::plain(answers::WRITTEN, 1, length as u64)) }
+        Ok(length) => { answers::put(text, answers::plain(Word::Written, Some(length as u64))) }
         Err(Refused::Template(refusal)) => template_refused(text, refusal),
         Err(Refused::Body(refusal)) => refused(text, refusal),
     }

@@ -6,6 +6,7 @@ ghost use Rattle.doubles.specs.Double.{exponent};
 ghost use Rattle.doubles.specs.Quotient.{bits_of};
 ghost use Rattle.doubles.specs.Reading.{IsNumber};
 
+use answers::Word;
 use channels::{Attribute, Place};
 use refusals::Refusal;
 use texts::Text;
@@ -74,7 +75,7 @@ pub fn place(text: &mut Text, line: &[u8], at: usize) {
 
 fn put_place(text: &mut Text, place: Place, scaling: Attribute) {
     match readings::place_thousandths(place, scaling) {
-        None => answers::put_word(text, answers::ABSENT),
+        None => answers::put_word(text, Word::Absent),
         Some(reading) => put_thousandths(text, reading),
     }
 }
@@ -135,7 +136,7 @@ pub fn double_place(text: &mut Text, line: &[u8], at: usize) {
 
 fn put_double_place(text: &mut Text, place: Place, scaling: Attribute) {
     match doubles::place_double(place, scaling) {
-        None => answers::put_word(text, answers::ABSENT),
+        None => answers::put_word(text, Word::Absent),
         Some(reading) => put_double(text, reading),
     }
 }

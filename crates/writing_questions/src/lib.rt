@@ -1,7 +1,7 @@
 // The questions that write, a record and a template: each is read from its words, asked of the library, and answered.
 #![tactic(auto)]
 
-use answers::Answer;
+use answers::{Answer, Word};
 use channels::{Description, Format};
 use fields::{Template, Wanted};
 use orders::Order;
@@ -83,13 +83,10 @@ fn ask(
     }
 }
 
-fn done(length: usize) -> Answer {
-    answers::plain(answers::WRITTEN, 1, length as u64)
-}
-
+// What a writer answered, of a record or a template.
 fn of_written(written: Result<usize, Refusal>) -> Answer {
     match written {
-        Ok(length) => done(length),
+        Ok(length) => answers::plain(Word::Written, Some(length as u64)),
         Err(refusal) => answers::of_refusal(refusal),
     }
 }
@@ -133,12 +130,5 @@ fn write_described(text: &mut Text, description: Description, template: Template
         template.maximum,
         &mut out[0..template.room],
     );
-    put(text, of_template(written), &out[0..template.room]);
-}
-
-fn of_template(written: Result<usize, Refusal>) -> Answer {
-    match written {
-        Ok(length) => done(length),
-        Err(refusal) => answers::of_refusal(refusal),
-    }
+    put(text, of_written(written), &out[0..template.room]);
 }
