@@ -155,6 +155,11 @@ module _ (s : List ℕ) where
 -- ---- The layout, by its front
 
 module _ (s : List ℕ) (start : ℕ) where
+  -- behind what was found of the front
+  pub front-layout : {h : Result Front Failure} {x : Result Layout Failure} → fronted (read_at front s start) ≡ h → x ≡ then_told h (layout_behind s) → layout_at s start ≡ x
+  unfolding layout_at
+  front-layout q e = ap (λ y. then_told y (layout_behind s)) q ∙ sym e
+
   -- behind the front that is there, or the front's own failure
   pub fronted-layout : {h : Front} {x : Result Layout Failure} → fronted (read_at front s start) ≡ Ok h → x ≡ layout_behind s h → layout_at s start ≡ x
   unfolding layout_at then_told
