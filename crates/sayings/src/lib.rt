@@ -177,6 +177,25 @@ pub fn described_at(line: &[u8], at: usize, mark: Format) -> Result<Description,
     Ok(description)
 }
 
+// The same, where a word that says no channel is passed over, so that there is always a description.
+pub fn description_at(line: &[u8], at: usize, mark: Format) -> Description
+    ensures { Blank line.now at → result ≡ nothing mark }
+{
+    let mut said = descriptions::nothing(mark);
+    // no `for`, as above
+    let mut place = words::next(line, b' ', at);
+    while place.from < place.to {
+        let word = words::part(line, place.from, place.to);
+        if let Some(channel) = channel_in(word) {
+            if let Some(d) = descriptor_in(word) {
+                said.channels[channel] = d;
+            }
+        }
+        place = words::next(line, b' ', place.to);
+    }
+    said
+}
+
 fn put_attribute(text: &mut Text, thing: Thing, attribute: Attribute) {
     if !attribute.given {
         return;
