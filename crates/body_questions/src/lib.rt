@@ -9,10 +9,10 @@ use fields::Wanted;
 use refusals::Refusal;
 use texts::Text;
 use turning::Turned;
-use words::{Parsed, Reason};
+use words::{Parsed, Reason, Unread};
 
 // How many bytes one word says, as that of a template.
-fn word_at(line: &[u8], at: usize, space: &mut [u8; 131072]) -> Result<Parsed<usize>, Reason>
+fn word_at(line: &[u8], at: usize, space: &mut [u8; 131072]) -> Result<Parsed<usize>, Unread>
     ensures { IfOk result (λ said. said.value ≤ 131072) }
 {
     let word = words::word_at(line, at);
@@ -65,7 +65,7 @@ pub fn body(text: &mut Text, line: &[u8], at: usize) {
 pub fn point(text: &mut Text, line: &[u8], at: usize) {
     match numerals::natural_at(line, at, u64::MAX) {
         Ok(index) => point_behind(text, line, index.behind, index.value as usize),
-        Err(reason) => answers::cannot(text, reason),
+        Err(unread) => answers::cannot(text, unread.reason),
     }
 }
 

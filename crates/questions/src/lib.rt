@@ -125,7 +125,7 @@ fn most(asked: OfNumberAndBytes) -> u64 {
 fn of_number_and_bytes(text: &mut Text, asked: OfNumberAndBytes, line: &[u8], at: usize) {
     match numerals::natural_at(line, at, most(asked)) {
         Ok(number) => of_bytes_and(text, asked, number.value as usize, line, number.behind),
-        Err(reason) => answers::cannot(text, reason),
+        Err(unread) => answers::cannot(text, unread.reason),
     }
 }
 

@@ -75,7 +75,7 @@ pub fn place(text: &mut Text, line: &[u8], at: usize) {
 
 fn put_place(text: &mut Text, place: Place, scaling: Attribute) {
     match readings::place_thousandths(place, scaling) {
-        None => answers::put_word(text, Word::Absent),
+        None => answers::put_word(text, Some(Word::Absent)),
         Some(reading) => put_thousandths(text, reading),
     }
 }
@@ -136,7 +136,7 @@ pub fn double_place(text: &mut Text, line: &[u8], at: usize) {
 
 fn put_double_place(text: &mut Text, place: Place, scaling: Attribute) {
     match doubles::place_double(place, scaling) {
-        None => answers::put_word(text, Word::Absent),
+        None => answers::put_word(text, Some(Word::Absent)),
         Some(reading) => put_double(text, reading),
     }
 }

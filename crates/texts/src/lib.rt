@@ -9,10 +9,11 @@ ghost use Rattle.texts.specs.Digits.{digit_count, joins_number, joins_field, joi
 use std::marker::Model;
 
 // An array, and how many of its bytes are gathered. Sixteen bits count them, so that there is always room for one more.
+// Both are open: a caller may begin in an array of its own, and read what is gathered.
 #[derive(Drop)]
 pub struct Text {
-    bytes: [u8; 65536],
-    used: u16,
+    pub bytes: [u8; 65536],
+    pub used: u16,
 }
 
 // A contract sees all of it, the bytes behind the gathered ones too.
