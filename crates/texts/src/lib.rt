@@ -58,6 +58,7 @@ impl Text {
     }
 
     // Where the bytes do not fill the text this is asked once, and not for each of them.
+    // They are put one by one: a copy would ask first whether the two lie over each other, and most are two or three.
     pub fn put_bytes(&mut self, bytes: &[u8])
         ensures { self.new ≡ joins_all self.old bytes.now }
     {
@@ -65,9 +66,10 @@ impl Text {
         if 65535 - first < bytes.len() {
             return self.put_each(bytes);
         }
-        let end = first + bytes.len();
-        self.bytes[first..end].copy_from_slice(bytes);
-        self.used = end as u16;
+        for i in 0..bytes.len() {
+            self.bytes[first + i] = bytes[i];
+        }
+        self.used = (first + bytes.len()) as u16;
     }
 
     // Twenty bytes have room in the text, which is written out where they have not.
@@ -82,6 +84,8 @@ impl Text {
     }
 
     // The digits are put where they belong at once, the last one first: each takes one division.
+    // It is worth a copy in each loop of a caller, which knows how long its numbers are.
+    #[inline]
     pub fn put_number(&mut self, number: u64)
         ensures { self.new ≡ joins_number self.old number }
     {
