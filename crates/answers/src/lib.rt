@@ -215,10 +215,13 @@ pub fn put_places(text: &mut Text, places: [Place; 16]) {
     }
 }
 
-// A line that cannot be read, and why.
-pub fn cannot(text: &mut Text, reason: Reason) {
+// A line that cannot be read, and why; or that there is no reason.
+pub fn cannot(text: &mut Text, reason: Option<Reason>) {
     text.put_bytes(b"cannot read: ");
-    text.put_bytes(told(reason));
+    match reason {
+        Some(reason) => text.put_bytes(told(reason)),
+        None => text.put_bytes(b"nothing"),
+    }
 }
 
 fn told(reason: Reason) -> &'static [u8] {

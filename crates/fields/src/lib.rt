@@ -22,8 +22,8 @@ pub fn end_at(line: &[u8], at: usize) -> Result<(), Reason>
 }
 
 // What the last word of a line says: the line has to end behind it. Of two reasons the one that stands first in the line is told.
-pub fn last_of<T: Drop>(line: &[u8], read: Result<Parsed<T>, Unread>) -> Result<T, Reason>
-    ensures { MatchResult read (λ said. MatchResult result (λ value. (value ≡ said.value) × Blank line.now said.behind) (λ reason. reason ≡ TooMany)) (λ unread. result ≡ Err unread.reason) }
+pub fn last_of<T: Drop>(line: &[u8], read: Result<Parsed<T>, Reason>) -> Result<T, Reason>
+    ensures { MatchResult read (λ said. MatchResult result (λ value. (value ≡ said.value) × Blank line.now said.behind) (λ reason. reason ≡ TooMany)) (λ reason. result ≡ Err reason) }
 {
     let said = read?;
     end_at(line, said.behind)?;
