@@ -58,8 +58,11 @@ pub struct Answer {
     named: Option<Quantity>,
 }
 
-pub fn put_word(text: &mut Text, word: Word) {
-    text.put_bytes(bytes_of(word));
+// One of those words, or nothing.
+pub fn put_word(text: &mut Text, word: Option<Word>) {
+    if let Some(word) = word {
+        text.put_bytes(bytes_of(word));
+    }
 }
 
 fn put_numbers(text: &mut Text, numbers: Numbers) {
@@ -73,18 +76,18 @@ fn put_numbers(text: &mut Text, numbers: Numbers) {
     }
 }
 
-// A word behind the numbers.
-pub fn put_last(text: &mut Text, word: Word) {
-    text.put(b' ');
-    put_word(text, word);
+// A word behind the numbers, or none.
+pub fn put_last(text: &mut Text, word: Option<Word>) {
+    if let Some(_) = word {
+        text.put(b' ');
+        put_word(text, word);
+    }
 }
 
 pub fn put(text: &mut Text, answer: Answer) {
-    put_word(text, answer.word);
+    put_word(text, Some(answer.word));
     put_numbers(text, answer.numbers);
-    if let Some(word) = answer.last {
-        put_last(text, word);
-    }
+    put_last(text, answer.last);
     if let Some(quantity) = answer.named {
         quantities::put(text, quantity);
     }
@@ -212,10 +215,13 @@ pub fn put_places(text: &mut Text, places: [Place; 16]) {
     }
 }
 
-// A line that cannot be read, and why.
-pub fn cannot(text: &mut Text, reason: Reason) {
+// A line that cannot be read, and why; or that there is no reason.
+pub fn cannot(text: &mut Text, reason: Option<Reason>) {
     text.put_bytes(b"cannot read: ");
-    text.put_bytes(told(reason));
+    match reason {
+        Some(reason) => text.put_bytes(told(reason)),
+        None => text.put_bytes(b"nothing"),
+    }
 }
 
 fn told(reason: Reason) -> &'static [u8] {

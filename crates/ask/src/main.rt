@@ -36,7 +36,7 @@ impl Line {
 // The answer to a line, with its line feed.
 fn answer(text: &mut Text, line: &Line) {
     if LONGEST < line.gathered {
-        answers::cannot(text, Reason::TooLong);
+        answers::cannot(text, Some(Reason::TooLong));
     } else {
         questions::answer(text, &line.bytes[0..line.gathered]);
     }

@@ -9,10 +9,10 @@ use fields::Wanted;
 use refusals::Refusal;
 use texts::Text;
 use turning::Turned;
-use words::{Parsed, Reason};
+use words::{Parsed, Reason, Unread};
 
 // How many bytes one word says, as that of a template.
-fn word_at(line: &[u8], at: usize, space: &mut [u8; 131072]) -> Result<Parsed<usize>, Reason>
+fn word_at(line: &[u8], at: usize, space: &mut [u8; 131072]) -> Result<Parsed<usize>, Unread>
     ensures { IfOk result (λ said. said.value ≤ 131072) }
 {
     let word = words::word_at(line, at);
@@ -57,7 +57,7 @@ pub fn body(text: &mut Text, line: &[u8], at: usize) {
     let mut room = [0; 131072];
     match asked_at(line, at, &mut space, &mut room) {
         Ok(asked) => judge(text, &space[0..asked.template], &room[0..asked.body]),
-        Err(reason) => answers::cannot(text, reason),
+        Err(reason) => answers::cannot(text, Some(reason)),
     }
 }
 
@@ -65,7 +65,7 @@ pub fn body(text: &mut Text, line: &[u8], at: usize) {
 pub fn point(text: &mut Text, line: &[u8], at: usize) {
     match numerals::natural_at(line, at, u64::MAX) {
         Ok(index) => point_behind(text, line, index.behind, index.value as usize),
-        Err(reason) => answers::cannot(text, reason),
+        Err(unread) => answers::cannot(text, Some(unread.reason)),
     }
 }
 
@@ -74,7 +74,7 @@ fn point_behind(text: &mut Text, line: &[u8], at: usize, index: usize) {
     let mut room = [0; 131072];
     match asked_at(line, at, &mut space, &mut room) {
         Ok(asked) => show(text, &space[0..asked.template], &room[0..asked.body], index),
-        Err(reason) => answers::cannot(text, reason),
+        Err(reason) => answers::cannot(text, Some(reason)),
     }
 }
 
@@ -152,7 +152,7 @@ pub fn write(text: &mut Text, line: &[u8], at: usize) {
                 &space[0..wanted.lent],
             )
         }
-        Err(reason) => answers::cannot(text, reason),
+        Err(reason) => answers::cannot(text, Some(reason)),
     }
 }
 
@@ -205,7 +205,7 @@ pub fn turn(text: &mut Text, line: &[u8], at: usize) {
     let mut space = [0; 131072];
     match turn_asked_at(line, at, &mut space) {
         Ok(asked) => turn_record(text, &space[0..asked.whole], asked),
-        Err(reason) => answers::cannot(text, reason),
+        Err(reason) => answers::cannot(text, Some(reason)),
     }
 }
 

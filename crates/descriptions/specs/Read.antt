@@ -2,7 +2,7 @@
 use Rattle.std.specs.Prelude.{◌≡◌, Bool, cond, List, ℕ, ◌+◌, ℤ, replicate, Result, Ok, Err}
 use Rattle.std.proofs.Math.Path.{refl, ap}
 use Rattle.formats.specs.Reader.{Reader, Answer, ok, short, bad, read_at, map, each}
-use Rattle.formats.specs.Told.{failed, answered, answered-done, answered-failed, failed-answered}
+use Rattle.formats.specs.Told.{told, failed, answered, answered-done, answered-failed, failed-answered, then_told}
 use Rattle.formats.specs.Bytes.{impossible}
 use Rattle.formats.specs.Binary.{bit}
 use Rattle.formats.specs.declared.Failure.{Failure}
@@ -33,6 +33,20 @@ undescribed d = record { end = d.end; included = d.included; stored = d.stored }
 
 abbrev pub measured : Answer Description → Result Measured Failure
 measured x = answered (λ d n. undescribed (described_to d n)) x
+
+-- where what was described ends is where reading told, and a failure is the one that reading told
+pub outcome-told : (x : Answer Description) → then_told (described x) (λ d. Ok d.end) ≡ told x
+unfolding answered then_told told
+outcome-told (ok d n) = refl
+outcome-told short = refl
+outcome-told (bad k p) = refl
+
+-- and what was only measured so
+pub measured-told : (x : Answer Description) → then_told (measured x) (λ m. Ok m.end) ≡ told x
+unfolding answered then_told told
+measured-told (ok d n) = refl
+measured-told short = refl
+measured-told (bad k p) = refl
 
 -- what was described, taken back to the answer
 pub described-done : (x : Answer Description) {d : Described} → described x ≡ Ok d → (x ≡ ok d.description d.end) × (d ≡ described_to d.description d.end)

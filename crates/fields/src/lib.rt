@@ -4,10 +4,11 @@
 ghost use Rattle.std.specs.Prelude.{◌≡◌, ◌≤◌, IfOk, MatchResult};
 ghost use Rattle.fields.specs.Ahead.{Ahead};
 ghost use Rattle.words.specs.Places.{Blank};
-ghost use Rattle.words.specs.declared.Reason.TheVariants.{TooMany};
+ghost use Rattle.words.specs.Unsaid.{Unsaid};
+ghost use Rattle.words.specs.declared.Reason.TheVariants.{NotANumber, NotAPlace, TooMany};
 
 use channels::{Attribute, Place};
-use words::{Parsed, Reason};
+use words::{Parsed, Reason, Unread};
 
 // The line has to end.
 pub fn end_at(line: &[u8], at: usize) -> Result<(), Reason>
@@ -35,8 +36,8 @@ fn says_none(word: &[u8]) -> bool {
 }
 
 // A place of a point, as `point` answers it.
-pub fn place_at(line: &[u8], at: usize) -> Result<Parsed<Place>, Reason>
-    ensures { IfOk result (λ said. Ahead line.now at said.behind) }
+pub fn place_at(line: &[u8], at: usize) -> Result<Parsed<Place>, Unread>
+    ensures { MatchResult result (λ said. Ahead line.now at said.behind) (λ unread. Unsaid line.now at NotAPlace unread) }
 {
     let word = words::word_at(line, at);
     let place = match word.value {
@@ -48,8 +49,8 @@ pub fn place_at(line: &[u8], at: usize) -> Result<Parsed<Place>, Reason>
 }
 
 // A channel's scaling value, or none, or a number without its flag.
-pub fn scaling_at(line: &[u8], at: usize) -> Result<Parsed<Attribute>, Reason>
-    ensures { IfOk result (λ said. Ahead line.now at said.behind) }
+pub fn scaling_at(line: &[u8], at: usize) -> Result<Parsed<Attribute>, Unread>
+    ensures { MatchResult result (λ said. Ahead line.now at said.behind) (λ unread. Unsaid line.now at NotANumber unread) }
 {
     let word = words::word_at(line, at);
     let number = if says_none(word.value) {
@@ -104,7 +105,7 @@ pub fn record_at(
 }
 
 // How many values a word says.
-fn values_at(line: &[u8], at: usize, values: &mut [i32; 131072]) -> Result<Parsed<usize>, Reason>
+fn values_at(line: &[u8], at: usize, values: &mut [i32; 131072]) -> Result<Parsed<usize>, Unread>
     ensures { IfOk result (λ said. said.value ≤ 131072) }
 {
     let word = words::word_at(line, at);
@@ -120,7 +121,7 @@ struct Lent {
 }
 
 // Extended data, which `!` alone says are none.
-fn extended_at(line: &[u8], at: usize, space: &mut [u8; 131072]) -> Result<Parsed<Lent>, Reason>
+fn extended_at(line: &[u8], at: usize, space: &mut [u8; 131072]) -> Result<Parsed<Lent>, Unread>
     ensures { IfOk result (λ said. said.value.count ≤ 131072) }
 {
     let word = words::word_at(line, at);

@@ -53,6 +53,9 @@ pub fn put(out: &mut [u8], start: usize, bytes: &[u8]) -> usize
         return start;
     }
     let count = (out.len() - start).min(bytes.len());
-    out[start..start + count].copy_from_slice(&bytes[..count]);
+    // one by one: `copy_from_slice` is C's memmove, which the library would ask of C
+    for i in 0..count {
+        out[start + i] = bytes[i];
+    }
     start + count
 }

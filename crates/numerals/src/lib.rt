@@ -1,11 +1,13 @@
 // Numbers in decimal, as words say them.
 #![tactic(auto)]
 
-ghost use Rattle.std.specs.Prelude.{◌≡◌, ◌<◌, ◌≤◌, length, pos, IfSome, IfOk};
+ghost use Rattle.std.specs.Prelude.{◌≡◌, ◌<◌, ◌≤◌, length, pos, IfSome, MatchResult};
+ghost use Rattle.words.specs.declared.Reason.TheVariants.{NotANumber};
+ghost use Rattle.words.specs.Unsaid.{Unsaid};
 ghost use Rattle.numerals.specs.Decimal.{continued, whole};
 ghost use Rattle.numerals.specs.Told.{Told};
 
-use words::{Parsed, Reason};
+use words::{Parsed, Reason, Unread};
 
 // The number that one to eighteen digits say. It is below 10^18, so that 64 bits hold it with either sign.
 fn digits_in(word: &[u8]) -> Option<u64>
@@ -55,17 +57,17 @@ pub fn natural_in(word: &[u8], most: u64) -> Option<u64>
     Some(value)
 }
 
-// The number that a line says at a place.
-pub fn natural_at(line: &[u8], at: usize, most: u64) -> Result<Parsed<u64>, Reason>
-    ensures { IfOk result (λ said. (said.value ≤ most) × Told line.now at (pos said.value) said.behind) }
+// The number that a line says at a place; or why it says none, and where its word ends.
+pub fn natural_at(line: &[u8], at: usize, most: u64) -> Result<Parsed<u64>, Unread>
+    ensures { MatchResult result (λ said. (said.value ≤ most) × Told line.now at (pos said.value) said.behind) (λ unread. Unsaid line.now at NotANumber unread) }
 {
     let word = words::word_at(line, at);
     words::read_as(word, natural_in(word.value, most), Reason::NotANumber)
 }
 
-// The whole number that a line says at a place.
-pub fn whole_at(line: &[u8], at: usize) -> Result<Parsed<i64>, Reason>
-    ensures { IfOk result (λ said. Told line.now at said.value said.behind) }
+// The whole number that a line says at a place, likewise.
+pub fn whole_at(line: &[u8], at: usize) -> Result<Parsed<i64>, Unread>
+    ensures { MatchResult result (λ said. Told line.now at said.value said.behind) (λ unread. Unsaid line.now at NotANumber unread) }
 {
     let word = words::word_at(line, at);
     words::read_as(word, whole_in(word.value), Reason::NotANumber)

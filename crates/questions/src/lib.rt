@@ -75,7 +75,7 @@ pub fn answer(text: &mut Text, line: &[u8]) {
     let span = words::next(line, b' ', 0);
     match question_of(words::part(line, span.from, span.to)) {
         Some(question) => ask(text, question, line, span.to),
-        None => answers::cannot(text, Reason::NoSuchQuestion),
+        None => answers::cannot(text, Some(Reason::NoSuchQuestion)),
     }
 }
 
@@ -101,7 +101,7 @@ fn ask(text: &mut Text, question: Question, line: &[u8], at: usize) {
 fn of_bytes(text: &mut Text, asked: OfBytes, line: &[u8], at: usize) {
     let mut space = [0; 131072];
     let Some(count) = hexadecimal::bytes_in(words::part(line, at, line.len()), &mut space) else {
-        return answers::cannot(text, Reason::NotBytes);
+        return answers::cannot(text, Some(Reason::NotBytes));
     };
     let bytes = &space[0..count];
     match asked {
@@ -125,14 +125,14 @@ fn most(asked: OfNumberAndBytes) -> u64 {
 fn of_number_and_bytes(text: &mut Text, asked: OfNumberAndBytes, line: &[u8], at: usize) {
     match numerals::natural_at(line, at, most(asked)) {
         Ok(number) => of_bytes_and(text, asked, number.value as usize, line, number.behind),
-        Err(reason) => answers::cannot(text, reason),
+        Err(unread) => answers::cannot(text, Some(unread.reason)),
     }
 }
 
 fn of_bytes_and(text: &mut Text, asked: OfNumberAndBytes, number: usize, line: &[u8], at: usize) {
     let mut space = [0; 131072];
     let Some(count) = hexadecimal::bytes_in(words::part(line, at, line.len()), &mut space) else {
-        return answers::cannot(text, Reason::NotBytes);
+        return answers::cannot(text, Some(Reason::NotBytes));
     };
     let bytes = &space[0..count];
     match asked {

@@ -23,7 +23,8 @@ struct Asked {
 fn asked_at(line: &[u8], at: usize) -> Result<Asked, Reason> {
     let raw = numerals::whole_at(line, at)?;
     let e = numerals::natural_at(line, raw.behind, u64::MAX)?;
-    let f = fields::last_of(line, numerals::natural_at(line, e.behind, u64::MAX))?;
+    let f = numerals::natural_at(line, e.behind, u64::MAX).map_err(|unread| unread.reason);
+    let f = fields::last_of(line, f)?;
     Ok(Asked {
         raw: raw.value,
         e: e.value,
@@ -40,7 +41,8 @@ struct PlaceAsked {
 
 fn place_asked_at(line: &[u8], at: usize) -> Result<PlaceAsked, Reason> {
     let place = fields::place_at(line, at)?;
-    let scaling = fields::last_of(line, fields::scaling_at(line, place.behind))?;
+    let scaling = fields::scaling_at(line, place.behind).map_err(|unread| unread.reason);
+    let scaling = fields::last_of(line, scaling)?;
     Ok(PlaceAsked {
         place: place.value,
         scaling: scaling,
@@ -62,20 +64,20 @@ pub fn thousandths(text: &mut Text, line: &[u8], at: usize) {
         Ok(asked) => {
             put_thousandths(text, readings::to_thousandths(asked.raw, asked.e, asked.f))
         }
-        Err(reason) => answers::cannot(text, reason),
+        Err(reason) => answers::cannot(text, Some(reason)),
     }
 }
 
 pub fn place(text: &mut Text, line: &[u8], at: usize) {
     match place_asked_at(line, at) {
         Ok(asked) => put_place(text, asked.place, asked.scaling),
-        Err(reason) => answers::cannot(text, reason),
+        Err(reason) => answers::cannot(text, Some(reason)),
     }
 }
 
 fn put_place(text: &mut Text, place: Place, scaling: Attribute) {
     match readings::place_thousandths(place, scaling) {
-        None => answers::put_word(text, Word::Absent),
+        None => answers::put_word(text, Some(Word::Absent)),
         Some(reading) => put_thousandths(text, reading),
     }
 }
@@ -123,20 +125,20 @@ fn put_double(text: &mut Text, reading: Result<f64, Refusal>)
 pub fn double(text: &mut Text, line: &[u8], at: usize) {
     match asked_at(line, at) {
         Ok(asked) => put_double(text, doubles::to_double(asked.raw, asked.e, asked.f)),
-        Err(reason) => answers::cannot(text, reason),
+        Err(reason) => answers::cannot(text, Some(reason)),
     }
 }
 
 pub fn double_place(text: &mut Text, line: &[u8], at: usize) {
     match place_asked_at(line, at) {
         Ok(asked) => put_double_place(text, asked.place, asked.scaling),
-        Err(reason) => answers::cannot(text, reason),
+        Err(reason) => answers::cannot(text, Some(reason)),
     }
 }
 
 fn put_double_place(text: &mut Text, place: Place, scaling: Attribute) {
     match doubles::place_double(place, scaling) {
-        None => answers::put_word(text, Word::Absent),
+        None => answers::put_word(text, Some(Word::Absent)),
         Some(reading) => put_double(text, reading),
     }
 }

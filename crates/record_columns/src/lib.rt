@@ -83,7 +83,7 @@ pub fn read_columns(bytes: &[u8], values: &mut [i32]) -> Result<(), Refusal>
     ensures { ReadColumns bytes.now values.old result values.new }
 {
     let front = record_fronts::front_at(bytes, 0)?;
-    let layout = record_layouts::layout_behind(bytes, front)?;
+    let layout = record_layouts::layout_behind(bytes, Ok(front))?;
     if layout.end < bytes.len() {
         return Err(Refusal::LeftOver { place: layout.end });
     }

@@ -3,6 +3,7 @@
 
 ghost use Rattle.std.specs.Prelude.{◌≡◌, ◌+◌, ◌*◌};
 ghost use Rattle.formats.specs.Reader.{read_at};
+ghost use Rattle.formats.specs.Told.{then_told};
 ghost use Rattle.record_fronts.specs.Front.{opened, front as frontReader};
 ghost use Rattle.record_fronts.specs.Fronted.{opened_as, fronted, front_behind};
 
@@ -62,10 +63,11 @@ pub struct Front {
     pub points: usize,
 }
 
-// The front behind channels that were read, or only measured.
-pub fn front_behind(bytes: &[u8], measured: Measured) -> Result<Front, Failure>
-    ensures { result ≡ front_behind bytes.now measured }
+// The front behind channels that were read, or only measured; where that failed, its failure.
+pub fn front_behind(bytes: &[u8], measured: Result<Measured, Failure>) -> Result<Front, Failure>
+    ensures { result ≡ then_told measured (front_behind bytes.now) }
 {
+    let measured = measured?;
     let opened = opened_at(bytes, measured.end)?;
     let included = measured.included;
     let stored = measured.stored;
@@ -83,6 +85,6 @@ pub fn front_at(bytes: &[u8], start: usize) -> Result<Front, Failure>
     ensures { result ≡ fronted (read_at frontReader bytes.now start) }
 {
     let at = identifications::end(bytes, start)?;
-    let measured = descriptions::measure(bytes, at, Format::Full)?;
+    let measured = descriptions::measure(bytes, at, Format::Full);
     front_behind(bytes, measured)
 }

@@ -1,5 +1,5 @@
 -- Where the parts of a record lie, as code finds them behind its front.
-use Rattle.std.specs.Prelude.{List, ℕ, Result, Ok}
+use Rattle.std.specs.Prelude.{List, ℕ, Result, Ok, Err}
 use Rattle.formats.specs.Reader.{read_at, times}
 use Rattle.formats.specs.Told.{told, then_told}
 use Rattle.points.specs.Points.{point}
@@ -20,3 +20,8 @@ layout_behind s h =
 -- the record that stands from a place on
 unfoldable pub layout_at : List ℕ → (start : ℕ) → Result Layout Failure
 layout_at s start = then_told (fronted (read_at front s start)) (layout_behind s)
+
+-- how many points are counted: none where reading failed
+unfoldable pub points_counted : Result Layout Failure → ℕ
+points_counted (Ok l) = l.count
+points_counted (Err f) = 0

@@ -20,7 +20,7 @@ use Rattle.channels.specs.Descriptors.{included, stored}
 use Rattle.records.specs.Record.{Record, extension, full_record, present, extended_bytes}
 use Rattle.record_fronts.specs.Front.{Heading, front, body, in_two}
 use Rattle.record_fronts.specs.Fronted.{front_of, fronted}
-use Rattle.record_layouts.specs.Layout.{layout_behind, layout_at}
+use Rattle.record_layouts.specs.Layout.{layout_behind, layout_at, points_counted}
 use Rattle.record_fronts.specs.declared.Front.{Front}
 use Rattle.record_layouts.specs.declared.Layout.{Layout}
 
@@ -155,6 +155,11 @@ module _ (s : List ℕ) where
 -- ---- The layout, by its front
 
 module _ (s : List ℕ) (start : ℕ) where
+  -- behind what was found of the front
+  pub front-layout : {h : Result Front Failure} {x : Result Layout Failure} → fronted (read_at front s start) ≡ h → x ≡ then_told h (layout_behind s) → layout_at s start ≡ x
+  unfolding layout_at
+  front-layout q e = ap (λ y. then_told y (layout_behind s)) q ∙ sym e
+
   -- behind the front that is there, or the front's own failure
   pub fronted-layout : {h : Front} {x : Result Layout Failure} → fronted (read_at front s start) ≡ Ok h → x ≡ layout_behind s h → layout_at s start ≡ x
   unfolding layout_at then_told
@@ -200,6 +205,21 @@ module _ (s : List ℕ) (start : ℕ) (inside : start ≤ length s) where
   pub failed-lies : {f : Failure} → layout_at s start ≡ Err f → read_at full_record s start ≡ failed f
   failed-lies e = fails_as (read_at full_record s start) (of-layout (read_at full_record s start) refl) e
 
+  -- with no points
+  pub failed-count : {f : Failure} → layout_at s start ≡ Err f → points_counted (layout_at s start) ≡ 0
+  unfolding points_counted
+  failed-count e = ap points_counted e
+
+  ends_as : (x : Answer Record) → Agrees s (fronted (read_at front s start)) x (layout_at s start) → then_told (layout_at s start) (λ l. Ok l.end) ≡ told x
+  unfolding Agrees then_told told
+  ends_as (ok r n) g = ap (λ y. then_told y (λ l. Ok l.end)) g.lays ∙ ap Ok g.ends
+  ends_as short g = ap (λ y. then_told y (λ l. Ok l.end)) g
+  ends_as (bad k p) g = ap (λ y. then_told y (λ l. Ok l.end)) g
+
+  -- it ends where reading told, or as reading failed
+  pub layout-told : then_told (layout_at s start) (λ l. Ok l.end) ≡ told (read_at full_record s start)
+  layout-told = ends_as (read_at full_record s start) (of-layout (read_at full_record s start) refl)
+
 -- ---- The record that some bytes begin with
 
 module _ (s : List ℕ) where
@@ -228,3 +248,6 @@ module _ (s : List ℕ) where
 
   pub failed-read : {f : Failure} → layout_at s 0 ≡ Err f → run full_record s ≡ failed f
   failed-read e = sym (at-start full_record s) ∙ failed-lies s 0 (omega arith) e
+
+  pub none-counted : {f : Failure} → layout_at s 0 ≡ Err f → points_counted (layout_at s 0) ≡ 0
+  none-counted e = failed-count s 0 (omega arith) e

@@ -3,7 +3,7 @@
 
 ghost use Rattle.std.specs.Prelude.{◌≡◌, ◌≤◌, length};
 ghost use Rattle.formats.specs.Reader.{read_at};
-ghost use Rattle.formats.specs.Told.{told};
+ghost use Rattle.formats.specs.Told.{told, then_told};
 ghost use Rattle.formats.specs.Jump.{ends};
 ghost use Rattle.records.specs.Record.{extension};
 ghost use Rattle.record_layouts.specs.Layout.{layout_behind, layout_at};
@@ -50,10 +50,11 @@ pub struct Layout {
     pub end: usize,
 }
 
-// The points behind a front, and the extended data behind them.
-pub fn layout_behind(bytes: &[u8], front: Front) -> Result<Layout, Failure>
-    ensures { result ≡ layout_behind bytes.now front }
+// The points behind a front, and the extended data behind them; where reading the front failed, its failure.
+pub fn layout_behind(bytes: &[u8], front: Result<Front, Failure>) -> Result<Layout, Failure>
+    ensures { result ≡ then_told front (layout_behind bytes.now) }
 {
+    let front = front?;
     let extension = points::judge(
         bytes,
         front.points,
@@ -74,6 +75,6 @@ pub fn layout_behind(bytes: &[u8], front: Front) -> Result<Layout, Failure>
 pub fn layout_at(bytes: &[u8], start: usize) -> Result<Layout, Failure>
     ensures { result ≡ layout_at bytes.now start }
 {
-    let front = record_fronts::front_at(bytes, start)?;
+    let front = record_fronts::front_at(bytes, start);
     layout_behind(bytes, front)
 }

@@ -29,7 +29,7 @@ pub fn point(bytes: &[u8], index: usize) -> [Place; 16]
     let Ok(front) = record_fronts::front_at(bytes, 0) else {
         return [Place::Absent; 16];
     };
-    let Ok(layout) = record_layouts::layout_behind(bytes, front) else {
+    let Ok(layout) = record_layouts::layout_behind(bytes, Ok(front)) else {
         return [Place::Absent; 16];
     };
     let count = layout.count as usize;

@@ -103,7 +103,7 @@ fn extent_behind(bytes: &[u8], header: Described) -> Result<Extent, Refusal>
         included: included,
         stored: stored,
     };
-    let front = record_fronts::front_behind(bytes, measured)?;
+    let front = record_fronts::front_behind(bytes, Ok(measured));
     let layout = record_layouts::layout_behind(bytes, front)?;
     Ok(extent_of(layout, 0))
 }

@@ -16,7 +16,7 @@ fn channel_of(name: &[u8]) -> Option<usize>
     ensures { IfSome result (λ channel. channel < 16) }
 {
     let channel = words::which(b"X Y Z VX VY AX AY T DT F S TX TY Az El R", b' ', name);
-    channel.filter(|number| *number < 16)
+    channel.ok().filter(|number| *number < 16)
 }
 
 // A channel's name, behind a space.
@@ -144,15 +144,15 @@ fn channel_in(word: &[u8]) -> Option<usize>
 pub fn mark_at(line: &[u8], at: usize, meant: Format) -> Parsed<Format> {
     let word = words::word_at(line, at);
     match words::which(b"full compact", b' ', word.value) {
-        Some(0) => Parsed {
+        Ok(0) => Parsed {
             value: Format::Full,
             behind: word.behind,
         },
-        Some(_) => Parsed {
+        Ok(_) => Parsed {
             value: Format::Compact,
             behind: word.behind,
         },
-        None => Parsed {
+        Err(_) => Parsed {
             value: meant,
             behind: at,
         },
@@ -175,6 +175,25 @@ pub fn described_at(line: &[u8], at: usize, mark: Format) -> Result<Description,
         span = words::next(line, b' ', span.to);
     }
     Ok(description)
+}
+
+// The same, where a word that says no channel is passed over, so that there is always a description.
+pub fn description_at(line: &[u8], at: usize, mark: Format) -> Description
+    ensures { Blank line.now at → result ≡ nothing mark }
+{
+    let mut said = descriptions::nothing(mark);
+    // no `for`, as above
+    let mut place = words::next(line, b' ', at);
+    while place.from < place.to {
+        let word = words::part(line, place.from, place.to);
+        if let Some(channel) = channel_in(word) {
+            if let Some(d) = descriptor_in(word) {
+                said.channels[channel] = d;
+            }
+        }
+        place = words::next(line, b' ', place.to);
+    }
+    said
 }
 
 fn put_attribute(text: &mut Text, thing: Thing, attribute: Attribute) {

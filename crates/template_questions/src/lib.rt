@@ -26,5 +26,5 @@ fn put_template(text: &mut Text, template: templates::Template) {
     if described {
         return sayings::put_description(text, description);
     }
-    answers::put_last(text, answers::Word::Nothing);
+    answers::put_last(text, Some(answers::Word::Nothing));
 }

@@ -9,10 +9,11 @@ ghost use Rattle.texts.specs.Digits.{digit_count, joins_number, joins_field, joi
 use std::marker::Model;
 
 // An array, and how many of its bytes are gathered. Sixteen bits count them, so that there is always room for one more.
+// Both are open: a caller may begin in an array of its own, and read what is gathered.
 #[derive(Drop)]
 pub struct Text {
-    bytes: [u8; 65536],
-    used: u16,
+    pub bytes: [u8; 65536],
+    pub used: u16,
 }
 
 // A contract sees all of it, the bytes behind the gathered ones too.
@@ -57,6 +58,7 @@ impl Text {
     }
 
     // Where the bytes do not fill the text this is asked once, and not for each of them.
+    // They are put one by one: a copy would ask first whether the two lie over each other, and most are two or three.
     pub fn put_bytes(&mut self, bytes: &[u8])
         ensures { self.new ≡ joins_all self.old bytes.now }
     {
@@ -64,9 +66,10 @@ impl Text {
         if 65535 - first < bytes.len() {
             return self.put_each(bytes);
         }
-        let end = first + bytes.len();
-        self.bytes[first..end].copy_from_slice(bytes);
-        self.used = end as u16;
+        for i in 0..bytes.len() {
+            self.bytes[first + i] = bytes[i];
+        }
+        self.used = (first + bytes.len()) as u16;
     }
 
     // Twenty bytes have room in the text, which is written out where they have not.
@@ -81,6 +84,8 @@ impl Text {
     }
 
     // The digits are put where they belong at once, the last one first: each takes one division.
+    // It is worth a copy in each loop of a caller, which knows how long its numbers are.
+    #[inline]
     pub fn put_number(&mut self, number: u64)
         ensures { self.new ≡ joins_number self.old number }
     {

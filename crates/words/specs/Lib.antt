@@ -1,3 +1,4 @@
 pub mod Names
 pub mod Places
 pub mod Said
+pub mod Unsaid

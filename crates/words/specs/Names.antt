@@ -25,9 +25,8 @@ pub record Named (names : List ℕ) (mark : ℕ) (word : List ℕ) (number : ℕ
   pub stands : At names mark 0 number from to
   pub same : word ≡ between names from to
 
--- a word is none of the names: of a number on there is no name, and no name before it is the word
-pub record Unnamed (names : List ℕ) (mark : ℕ) (word : List ℕ) : Type 0 where
-  pub count : ℕ
+-- a word is none of the names, and they are so many: of that number on there is no name, and no name before it is the word
+pub record Unnamed (names : List ℕ) (mark : ℕ) (word : List ℕ) (count : ℕ) : Type 0 where
   pub from : ℕ
   pub to : ℕ
   pub stands : At names mark 0 count from to

@@ -1,7 +1,7 @@
-// Words of a line: where they stand, how they begin, which of some names they are; and why one could not be read.
+// Words of a line: where they stand, how they begin, which of some names they are; and why one could not be read, and where it ends.
 #![tactic(auto)]
 
-ghost use Rattle.std.specs.Prelude.{◌≡◌, ◌-◌, take, drop, MatchOption};
+ghost use Rattle.std.specs.Prelude.{◌≡◌, ◌-◌, take, drop, MatchOption, MatchResult};
 ghost use Rattle.words.specs.Places.{Sought, Skipped, Word};
 ghost use Rattle.words.specs.Said.{begins_with, says_not, without_not, reason_of};
 ghost use Rattle.words.specs.Names.{Named, Unnamed, Nth, Stands};
@@ -28,6 +28,22 @@ impl Reason {
             return Reason::Missing;
         }
         otherwise
+    }
+}
+
+// Why a word of a line could not be read, and the place behind it.
+#[derive(Clone, Copy, Debug, PartialEq, Eq)]
+pub struct Unread {
+    pub reason: Reason,
+    pub behind: usize,
+}
+
+// So `?` passes the reason on where nobody asks for the place.
+impl From<Unread> for Reason {
+    ghost from_gives = { λ unread reason. reason ≡ unread.reason };
+
+    fn from(unread: Unread) -> Reason {
+        unread.reason
     }
 }
 
@@ -103,26 +119,32 @@ pub fn word_at<'a>(line: &'a [u8], at: usize) -> Parsed<&'a [u8]>
     }
 }
 
-// What a word of a line was read as, in the place of its bytes; or why it was not read.
+// What a word of a line was read as, in the place of its bytes; or why it was not read. The place behind it is told in either case.
 pub fn read_as<'a, T>(
     word: Parsed<&'a [u8]>,
     value: Option<T>,
     otherwise: Reason,
-) -> Result<Parsed<T>, Reason>
-    ensures { MatchOption value (result ≡ Err (reason_of word.entry.value.now otherwise)) (λ v. result ≡ Ok (record { value = v; behind = word.entry.behind })) }
+) -> Result<Parsed<T>, Unread>
+    ensures { MatchOption value (result ≡ Err (record { reason = reason_of word.entry.value.now otherwise; behind = word.entry.behind })) (λ v. result ≡ Ok (record { value = v; behind = word.entry.behind })) }
 {
     match value {
         Some(value) => Ok(Parsed {
             value: value,
             behind: word.behind,
         }),
-        None => Err(Reason::of(word.value, otherwise)),
+        None => {
+            let behind = word.behind;
+            Err(Unread {
+                reason: Reason::of(word.value, otherwise),
+                behind: behind,
+            })
+        }
     }
 }
 
-// Which of some names a word is, counted from 0.
-pub fn which(names: &[u8], mark: u8, word: &[u8]) -> Option<usize>
-    ensures { MatchOption result (Unnamed names.now mark word.now) (λ number. Named names.now mark word.now number) }
+// Which of some names a word is, counted from 0; or how many they are, where it is none of them.
+pub fn which(names: &[u8], mark: u8, word: &[u8]) -> Result<usize, usize>
+    ensures { MatchResult result (λ number. Named names.now mark word.now number) (λ count. Unnamed names.now mark word.now count) }
 {
     // a turn leaps over a word and the marks before it: `split` would find a name without bytes between two marks
     let mut number: usize = 0;
@@ -130,12 +152,12 @@ pub fn which(names: &[u8], mark: u8, word: &[u8]) -> Option<usize>
     while at < names.len() {
         let span = next(names, mark, at);
         if check::same(part(names, span.from, span.to), word) {
-            return Some(number);
+            return Ok(number);
         }
         at = span.to;
         number += 1;
     }
-    None
+    Err(number)
 }
 
 // The name of a number among some names, or nothing where there is none.

@@ -47,7 +47,7 @@ pub fn write(text: &mut Text, line: &[u8], at: usize, order: Order) {
                 order,
             )
         }
-        Err(reason) => answers::cannot(text, reason),
+        Err(reason) => answers::cannot(text, Some(reason)),
     }
 }
 
@@ -117,7 +117,7 @@ fn template_asked_at(line: &[u8], at: usize) -> Result<TemplateAsked, Reason> {
 pub fn write_template(text: &mut Text, line: &[u8], at: usize) {
     match template_asked_at(line, at) {
         Ok(asked) => write_described(text, asked.description, asked.template),
-        Err(reason) => answers::cannot(text, reason),
+        Err(reason) => answers::cannot(text, Some(reason)),
     }
 }
 

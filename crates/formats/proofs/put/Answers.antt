@@ -1,14 +1,11 @@
--- `formats::put` meets its contract: what is copied are the first bytes, as many as there is room for.
-use mathlib.Core.Path.{◌≡◌, sym, ap, ◌∙◌}
-use mathlib.Core.List.{List, ◌++◌}
-use Prim.Native.Nat.{ℕ, ◌≤◌, ◌-◌, ◌+◌}
+-- `formats::put` meets its contract. The invariant: what is left to copy makes of these bytes what all that there is room for makes of those at the start.
+use mathlib.Core.Path.{◌≡◌, sym, ◌∙◌}
+use Prim.Native.Nat.{◌-◌}
 use native.Mathlib.Omega.{arith}
-use lib.ListN.{length, take, drop}
-use lib.Seq.{drop-drop}
-use borrow.Rule.Slice.PartMut.{put_mid}
-use Rattle.std.proofs.lemmas.List.{length-take, take_min}
-use Rattle.formats.specs.Put.{puts, puts-is}
-use Rattle.formats.specs.Laid.{laid_none, laid-within}
+use lib.ListN.{length, take}
+use lib.Seq.{get_or-take}
+use Rattle.std.proofs.lemmas.List.{length-take}
+use Rattle.formats.specs.Laid.{laid_none, laid-within, copied_none, copied_next, copied_all}
 use Rattle.formats.proofs.put.Goals as goal
 
 pub returns-then-out-start : goal.returns-then-out-start
@@ -17,19 +14,22 @@ returns-then-out-start c =
     let z : length a.out.now - a.start ≡ 0 = omega arith in
     laid-within _ (rw z (laid_none _ _))
 
--- a string written over a part of its length is put there
-over_part : (s : List ℕ) (at n : ℕ) (b : List ℕ) → length b ≡ n → at + n ≤ length s → put_mid at (at + n - at) s b ≡ puts s at b
-over_part s at n b e h =
-    let z : at + n - at ≡ n = omega arith in
-    rw z (ap (λ w. take at s ++ (b ++ w)) (drop-drop n at s ∙ ap (λ m. drop (at + m) s) (sym e)) ∙ sym (puts-is s at b (omega arith)))
+pub loop-i-init : goal.loop-i-init
+loop-i-init c = copied_none _ _ _
+
+pub loop-i-preserved : goal.loop-i-preserved
+loop-i-preserved c =
+    let a = c.args in
+    let room = length a.out.now - a.start in
+    let all : length (take room a.bytes.now) ≡ c.min-count.result = length-take room a.bytes.now ∙ sym c.min-count.ensures in
+    rw
+    (get_or-take room a.bytes.now c.loop-i.i 0 (omega (arith, c.min-count.ensures)))
+    at (copied_next a.start (take room a.bytes.now) c.loop-i.i (omega (arith, all)) c.loop-i.invariant)
 
 pub returns : goal.returns
 returns c =
     let a = c.args in
     let room = length a.out.now - a.start in
-    let count : length (take room a.bytes.now) ≡ c.min-count.result = length-take room a.bytes.now ∙ sym c.min-count.ensures in
-    let copied : c.copy_from_slice.new.self ≡ take room a.bytes.now = c.copy_from_slice.ensures.after ∙ ap (λ n. take n a.bytes.now) c.min-count.ensures ∙ take_min room a.bytes.now in
-    laid-within a.bytes.now (record {
-      place = ap (λ n. a.start + n) (sym count);
-      bytes = rw copied (over_part a.out.now a.start c.min-count.result (take room a.bytes.now) count (omega (arith, c.min-count.ensures)));
-    })
+    let all : length (take room a.bytes.now) ≡ c.min-count.result = length-take room a.bytes.now ∙ sym c.min-count.ensures in
+    let last : c.loop-i.i ≡ c.min-count.result = omega arith in
+    laid-within _ (rw last at (copied_all a.start _ c.loop-i.i (omega (arith, all)) c.loop-i.invariant))

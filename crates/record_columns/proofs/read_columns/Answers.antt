@@ -15,7 +15,7 @@ use Rattle.orders.specs.Orders.{size}
 use Rattle.record_fronts.specs.Front as meant
 use Rattle.record_fronts.specs.Fronted.{fronted}
 use Rattle.record_layouts.specs.Layout.{layout_at}
-use Rattle.record_layouts.specs.LayoutLaws.{fronted-layout, unfronted-layout}
+use Rattle.record_layouts.specs.LayoutLaws.{front-layout, unfronted-layout}
 use Rattle.record_columns.proofs.Lying.{no_record, left_over, points-within, other-amount, columns-filled}
 use Rattle.record_columns.proofs.read_columns.Goals as goal
 use Rattle.record_columns.proofs.read_columns.Goals.{After-is_amount, Else-not-is_amount, In_ok-layout, Start}
@@ -28,7 +28,7 @@ returns-in_err-front c =
 pub returns-in_err-layout : goal.returns-in_err-layout
 returns-in_err-layout c =
     let gone : c.from_residual-in_err-layout.result ≡ Err (refusal_of c.in_err-layout.field-0.0) = search rules in
-    rw gone (no_record _ _ (fronted-layout _ _ (sym c.front_at.ensures ∙ c.in_ok-front.was) c.layout_behind.ensures ∙ c.in_err-layout.was))
+    rw gone (no_record _ _ (front-layout _ _ (sym c.front_at.ensures ∙ c.in_ok-front.was) c.layout_behind.ensures ∙ c.in_err-layout.was))
 
 -- the front and the layout are those of the bytes
 module _ (b : In_ok-layout) where
@@ -39,7 +39,7 @@ module _ (b : In_ok-layout) where
   front = sym b.front_at.ensures ∙ b.in_ok-front.was
 
   laid : layout_at start.args.bytes.now 0 ≡ Ok b.in_ok-layout.layout
-  laid = fronted-layout _ _ front b.layout_behind.ensures ∙ b.in_ok-layout.was
+  laid = front-layout _ _ front b.layout_behind.ensures ∙ b.in_ok-layout.was
 
 pub returns-then-layout-bytes : goal.returns-then-layout-bytes
 returns-then-layout-bytes c = let b = (goal.at.returns-then-layout-bytes c).In_ok-layout in left_over _ _ (front b) (laid b) c.if-layout-bytes.true

@@ -1,14 +1,9 @@
 -- `record_layouts::layout_at` meets its contract: what lies behind the front.
-use Rattle.std.specs.Prelude.{Err}
-use borrow.Author.Rules.{rules}
-use mathlib.Core.Path.{◌≡◌, sym, ◌∙◌}
-use Rattle.record_layouts.specs.LayoutLaws.{fronted-layout, unfronted-layout}
+use mathlib.Core.Path.{ap, ◌∙◌}
+use Rattle.formats.specs.Told.{then_told}
+use Rattle.record_layouts.specs.Layout.{layout_behind, layout_at}
 use Rattle.record_layouts.proofs.layout_at.Goals as goal
 
-pub returns-in_err-front : goal.returns-in_err-front
-returns-in_err-front c =
-    let gone : c.from_residual.result ≡ Err c.in_err-front.field-0.0 = search rules in
-    gone ∙ sym (unfronted-layout _ _ (sym c.front_at.ensures ∙ c.in_err-front.was))
-
 pub returns : goal.returns
-returns c = sym (fronted-layout _ _ (sym c.front_at.ensures ∙ c.in_ok-front.was) c.layout_behind.ensures)
+unfolding layout_at
+returns c = c.layout_behind.ensures ∙ ap (λ h. then_told h (layout_behind c.args.bytes.now)) c.front_at-front.ensures

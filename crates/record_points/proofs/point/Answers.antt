@@ -6,7 +6,7 @@ use Rattle.formats.specs.Reader.{read_at}
 use Rattle.record_fronts.specs.Front as meant
 use Rattle.record_fronts.specs.Fronted.{fronted}
 use Rattle.record_layouts.specs.Layout.{layout_at}
-use Rattle.record_layouts.specs.LayoutLaws.{fronted-layout, unfronted-layout}
+use Rattle.record_layouts.specs.LayoutLaws.{front-layout, unfronted-layout}
 use Rattle.record_points.proofs.Pointing.{places-failed, places-none, places-there, points-start, point-within}
 use Rattle.record_points.proofs.point.Goals as goal
 use Rattle.record_points.proofs.point.Goals.{In-Ok-layout_behind}
@@ -15,7 +15,7 @@ pub returns-in_default : goal.returns-in_default
 returns-in_default c = places-failed _ (unfronted-layout _ _ (sym c.front_at.ensures ∙ c.in_default.is)) _
 
 pub returns-in_default-layout_behind : goal.returns-in_default-layout_behind
-returns-in_default-layout_behind c = places-failed _ (fronted-layout _ _ (sym c.front_at.ensures ∙ c.in-Ok.is) c.layout_behind.ensures ∙ c.in_default-layout_behind.is) _
+returns-in_default-layout_behind c = places-failed _ (front-layout _ _ (sym c.front_at.ensures ∙ c.in-Ok.is) c.layout_behind.ensures ∙ c.in_default-layout_behind.is) _
 
 -- the front and the layout are those of the bytes
 module _ (b : In-Ok-layout_behind) where
@@ -23,7 +23,7 @@ module _ (b : In-Ok-layout_behind) where
   there = sym b.front_at.ensures ∙ b.in-Ok.is
 
   laid : layout_at b.args.bytes.now 0 ≡ Ok b.in-Ok-layout_behind.layout
-  laid = fronted-layout _ _ there b.layout_behind.ensures ∙ b.in-Ok-layout_behind.is
+  laid = front-layout _ _ there b.layout_behind.ensures ∙ b.in-Ok-layout_behind.is
 
 pub returns-then-count-index : goal.returns-then-count-index
 returns-then-count-index c = places-none _ (laid (goal.at.returns-then-count-index c).In-Ok-layout_behind) _ c.if-count-index.true

@@ -1,22 +1,10 @@
 -- `sayings::described_at` says nothing where no word follows, since its loop then has no turn; it ends, since each turn goes on to the next word, which begins behind this one.
-use mathlib.Core.List.{List}
-use mathlib.Core.Logic.{⊎_elim}
-use Prim.Native.Nat.{ℕ, ◌≤◌}
 use mathlib.Core.Path.{refl, ap, ◌∙◌}
 use Rattle.std.proofs.Common.{Ok}
-use lib.ListN.{length}
 use native.Mathlib.Omega.{arith}
-use Rattle.words.specs.Places.{Word, Blank}
-use Rattle.words.proofs.Words.{lt-or-ge}
+use Rattle.words.specs.Places.{Blank}
+use Rattle.sayings.proofs.Blank.{empty}
 use Rattle.sayings.proofs.described_at.Goals as goal
-
--- where only spaces follow, the next word is empty
-empty : (line : List ℕ) (at from to : ℕ) → Word line 32 at from to → Blank line at → to ≤ from
-empty line at from to w h =
-    ⊎_elim
-    (λ p. absurd (w.begins.found p (h from w.begins.onward p)))
-    (λ p. ⊎_elim (λ q. omega (arith, w.ends.inside q)) (λ q. q) (lt-or-ge from to))
-    (lt-or-ge from (length line))
 
 pub loop-span-init : goal.loop-span-init
 loop-span-init c = (c.next-span.ensures.ends.inside, (λ h. empty _ _ _ _ c.next-span.ensures h), (λ h. refl))

@@ -35,7 +35,6 @@ loop-at-preserved c =
 pub returns : goal.returns
 returns c =
     record {
-      count = c.loop-at.number;
       from = c.loop-at.at;
       to = c.loop-at.at;
       stands = counted _ _ _ _ _ _ (omega arith) (c.loop-at.invariant.ahead 0 _ _ (here (ended _ _ _ c.loop-at-test.false)));

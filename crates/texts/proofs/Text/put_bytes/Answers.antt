@@ -1,19 +1,22 @@
--- `texts::Text::put_bytes` meets its contract: bytes that there is room for are put where they belong.
+-- `texts::Text::put_bytes` meets its contract. The invariant: what is left makes of the text what all bytes make of it from the start.
 use mathlib.Core.Path.{◌≡◌, sym, ap, ◌∙◌}
-use Prim.Native.Nat.{◌+◌, ◌-◌}
+use Prim.Native.Nat.{◌+◌}
 use lib.ListN.{length}
 use native.Mathlib.Omega.{arith}
-use Rattle.std.proofs.lemmas.List.{drop-drop}
-use Rattle.formats.specs.Put.{puts-is}
 use Rattle.texts.specs.Gathered.{gathered}
-use Rattle.texts.specs.JoiningLaws.{joins-put}
+use Rattle.texts.specs.JoiningLaws.{joins-copied, joins-none}
 use Rattle.texts.proofs.Text.put_bytes.Goals as goal
+
+pub loop-i-init : goal.loop-i-init
+loop-i-init c = let z : c.self.inside.used + 0 ≡ c.self.inside.used = omega arith in rw z
+
+pub loop-i-preserved : goal.loop-i-preserved
+loop-i-preserved c = c.loop-i.invariant ∙ joins-copied c.loop-i.self-inside.bytes c.args.bytes.now c.self.inside.used c.loop-i.i (omega arith) (omega arith)
 
 pub returns : goal.returns
 returns c =
-    let b = c.args.bytes.now in
     let at = c.self.inside.used in
-    let k : at + length b - at ≡ length b = omega arith in
+    let all : c.loop-i.i ≡ length c.args.bytes.now = omega arith in
     rw
-    (← c.self.view_is, k, c.copy_from_slice.ensures.after, drop-drop)
-    (sym (joins-put c.self.inside.bytes at b (omega arith) ∙ ap (λ s. gathered s (at + length b)) (puts-is c.self.inside.bytes at b (omega arith))))
+    (← c.self.view_is)
+    (sym (c.loop-i.invariant ∙ joins-none _ _ c.loop-i.i (omega arith) ∙ ap (λ i. gathered c.loop-i.self-inside.bytes (at + i)) all))
